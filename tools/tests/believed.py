@@ -55,7 +55,8 @@ def declared():
 
 counted = words()
 first = set(words("--files"))
-begins = "altarica_run/Reading.AnswersBy,ar_io/Handing.Reads,ar_io/Handing.Handed"
+begins = ",".join(["altarica_run/Reading.AnswersBy", "ar_io/Handing.ReadsToTheEnd", "ar_io/Handing.Handed", "ar_io/Handing.Handing",
+                   "ar_io/Handing.Writes", "ar_io/Handing.told_where", "ar_io/Loads.load_of", "job_stages/Numbers.number_of"])
 compare(files(call), first, "files of the call")
 compare(files(real_run), set(words("--files", "--from", begins)) - first, "files of real runs")
 compare(types(), declared(), "types")

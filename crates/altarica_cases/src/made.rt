@@ -6,6 +6,16 @@ use std::alloc::{AllocError, Global};
 /// the third in a text that is one past a limit. In it `#` stands for the number and `@` for the one before.
 pub(crate) type Part = (&'static str, u32, u32, u32);
 
+/// The text of these parts, at the limit or one past it.
+pub(crate) fn text_of(alloc: Global, parts: &[Part], is_past: bool) -> Result<String, AllocError> {
+    let mut text = String::new(alloc);
+    for (part, first, end, end_past) in parts {
+        let end = if is_past { *end_past } else { *end };
+        append(alloc, &mut text, part, [*first, end])?;
+    }
+    Ok(text)
+}
+
 // Appends a part for one number.
 fn append_once(
     alloc: Global,
@@ -39,14 +49,4 @@ fn append(
         append_once(alloc, text, part, number)?;
     }
     Ok(())
-}
-
-/// The text of these parts, at the limit or one past it.
-pub(crate) fn text_of(alloc: Global, parts: &[Part], is_past: bool) -> Result<String, AllocError> {
-    let mut text = String::new(alloc);
-    for (part, first, end, end_past) in parts {
-        let end = if is_past { *end_past } else { *end };
-        append(alloc, &mut text, part, [*first, end])?;
-    }
-    Ok(text)
 }

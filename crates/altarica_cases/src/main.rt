@@ -31,6 +31,15 @@ const ROOM: usize = 65_536;
 /// The room for a text of which the last line alone is printed, in bytes.
 const LONG: usize = 262_144;
 
+/// Runs the job of these words, where `model` and `script` name these texts.
+pub(crate) fn run_job(rt: &HostRuntime, name: &str, texts: [&str; 2], job: &str) -> io::Result<()> {
+    let mut shelf = MemoryShelf::new(rt.alloc());
+    for (file, text) in ["model", "script"].iter().zip(texts) {
+        shelf.place(file, text.as_bytes()).map_err(no_memory)?;
+    }
+    run(rt, name, &mut shelf, "-", &words_of(rt, job)?)
+}
+
 fn no_memory(_memory: Memory) -> io::Error {
     io::Error::from(io::ErrorKind::OutOfMemory)
 }
@@ -65,15 +74,6 @@ fn run_files(rt: &HostRuntime, name: &str, failing: [&str; 2], words: &[String])
         shelf.fail_at(&[call]).map_err(no_memory)?;
     }
     run(rt, name, &mut shelf, failing[1], words)
-}
-
-/// Runs the job of these words, where `model` and `script` name these texts.
-pub(crate) fn run_job(rt: &HostRuntime, name: &str, texts: [&str; 2], job: &str) -> io::Result<()> {
-    let mut shelf = MemoryShelf::new(rt.alloc());
-    for (file, text) in ["model", "script"].iter().zip(texts) {
-        shelf.place(file, text.as_bytes()).map_err(no_memory)?;
-    }
-    run(rt, name, &mut shelf, "-", &words_of(rt, job)?)
 }
 
 // The words of a line.

@@ -35,6 +35,24 @@ const CASES: [(&[&str], &str); 18] = [
     (&["a"], ""),
 ];
 
+/// Reads a text of a table, and texts of none, and prints of each how many gates it tells, or where it goes wrong.
+pub(crate) fn run_table_texts(rt: &HostRuntime) -> io::Result<()> {
+    for (events, text) in &CASES {
+        let texts = texts_of(rt.alloc(), events)?;
+        if text.len() > 1000 || !are_different(&texts) {
+            continue;
+        }
+        match read(rt.alloc(), text.as_bytes(), &texts) {
+            Ok(table) => println!(rt; "table text of {} gates", table.gates.len())?,
+            Err(AraliaFault::Syntax(at)) => {
+                println!(rt; "table text wrong at {}:{}", at.line, at.column)?
+            }
+            Err(AraliaFault::Memory) => return Err(no_memory(Memory {})),
+        }
+    }
+    Ok(())
+}
+
 fn texts_of(alloc: Global, events: &[&str]) -> io::Result<Vec<Text>> {
     let mut texts = Vec::new(alloc);
     for event in events {
@@ -52,22 +70,4 @@ fn are_different(texts: &[Text]) -> bool
         return texts[0].as_str() != texts[1].as_str();
     }
     texts.len() < 2
-}
-
-/// Reads a text of a table, and texts of none, and prints of each how many gates it tells, or where it goes wrong.
-pub(crate) fn run_table_texts(rt: &HostRuntime) -> io::Result<()> {
-    for (events, text) in &CASES {
-        let texts = texts_of(rt.alloc(), events)?;
-        if text.len() > 1000 || !are_different(&texts) {
-            continue;
-        }
-        match read(rt.alloc(), text.as_bytes(), &texts) {
-            Ok(table) => println!(rt; "table text of {} gates", table.gates.len())?,
-            Err(AraliaFault::Syntax(at)) => {
-                println!(rt; "table text wrong at {}:{}", at.line, at.column)?
-            }
-            Err(AraliaFault::Memory) => return Err(no_memory(Memory {})),
-        }
-    }
-    Ok(())
 }

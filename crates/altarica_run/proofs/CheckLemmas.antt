@@ -4,7 +4,7 @@ use Rattle.std.specs.Global.{Global}
 use Rattle.ar_base.specs.NumbersInside.{EventId}
 use Rattle.ar_base.specs.declared.faults.Memory.{Memory}
 use Rattle.ar_meaning.specs.Systems.{System}
-use Rattle.cut_check.specs.Flat.{numbers_of, AreVerdicts}
+use Rattle.cut_check.specs.Flat.{flat_event_numbers, AreVerdicts}
 use Rattle.cut_check.specs.declared.checking.Verdict.{Verdict}
 use Rattle.domains.specs.declared.Value.{Value}
 use Rattle.gts_core.specs.View.{numbered}
@@ -13,8 +13,8 @@ use Rattle.gts_core.specs.declared.system.GtsParts.{GtsParts}
 use Rattle.gts_core.specs.declared.system.Observer.{Observer}
 
 pub said_same : (p : GtsParts) (flat : System ℕ) (dropped : List ℕ) (events : List EventId) (chains : List Chain)
-    (wanted : Value) → dropped ≡ numbers_of events → (o : Observer) → (r : Result (Vec Verdict Global) Memory)
-    → IfOk r (λ (all : Vec Verdict Global). AreVerdicts p flat (numbers_of events) (numbered o.value) wanted chains
+    (wanted : Value) → dropped ≡ flat_event_numbers events → (o : Observer) → (r : Result (Vec Verdict Global) Memory)
+    → IfOk r (λ (all : Vec Verdict Global). AreVerdicts p flat (flat_event_numbers events) (numbered o.value) wanted chains
     all.items)
     → IfOk r (λ (all : Vec Verdict Global). AreVerdicts p flat dropped (numbered o.value) wanted chains all.items)
 said_same p flat dropped events chains wanted e o r h =

@@ -12,14 +12,14 @@ use Rattle.run_words.specs.declared.jobs.Asked.{Asked}
 use Rattle.run_words.specs.Jobs.{IsAsked}
 use Rattle.job_stages.specs.Elaborates.{Elaborates, no_tokens, no_reading, too_deep, breaks, exceeds}
 use Rattle.job_stages.specs.Files.{File, Loaded, long, later, files_of}
-use Rattle.altarica_run.specs.Follows.{Call, Gave, SinkRose, RoseAt, Wrote, IsQuiet, IsSaid, IsPrefix, sink_before, sink_after}
+use Rattle.altarica_run.specs.Follows.{Call, Gave, SinkRose, RoseAt, Wrote, IsQuiet, IsTextSaid, IsPrefix, sink_before, sink_after}
 use Rattle.job_stages.specs.Jobs.{IsNoJob}
 use Rattle.job_stages.specs.Refusals.{line_of, status_of}
 use Rattle.altarica_run.specs.Says.{Says, usage, refuses, tells, EndsSo}
 use Rattle.altarica_run.specs.Says as says
 use Rattle.job_stages.specs.Stages.{Ready, bare, Passes, not_loaded, loaded, line_refused, cut_refused, Scripted, ListsCuts, Drops, Wanting, Showing, Static, is_static, Tabled, has_table, observer_asked}
 use Rattle.job_stages.specs.Stages as stages
-use Rattle.altarica_run.specs.Statuses.{IsTold, IsRefused, Meaning_of}
+use Rattle.altarica_run.specs.Statuses.{IsWholeTold, IsRefused, Meaning_of}
 use Rattle.job_stages.specs.Tells.{Tells, check, flat, replay, fragment, equations, cuts, make, unsettled, checks, in_short, conflict, nodes}
 use Rattle.job_stages.specs.Tells as tells
 use Rattle.job_stages.specs.declared.refusals.Refusal.{Refusal}
@@ -169,7 +169,7 @@ said_no_memory files words text s (tells asked w is p t) = told_no_memory asked 
 
 module _ (c : Call) where
   told : (asked : Asked) (w : Ready) (text : List ℕ) (s : Status) → IsAsked c.words asked → Passes c.files asked (Ok w)
-      → Tells asked w text s → Wrote c text → IsTold c s
+      → Tells asked w text s → Wrote c text → IsWholeTold c s
   told asked w text s is p t a =
       record { asked = asked; is_job = is; ready = w; passes = p; text = text; tells = t; wrote = a }
 
@@ -288,26 +288,26 @@ module _ (c : Call) where
 
   module _ (quiet : IsQuiet c) where
     quiet_ends : (s : Status) → EndsSo c.files (RoseAt c) c.words (sink_before c) (sink_after c) s
-        → IsSaid c s ⊎ (s ≡ status.Memory)
+        → IsTextSaid c s ⊎ (s ≡ status.Memory)
     quiet_ends s (says.says {text = text} h a q) = inl (record { text = text; said = h; wrote = a })
     quiet_ends s (says.not_read {name = name} asked is l r a q) = absurd (quiet.read name r)
     quiet_ends s (says.not_written b r h) = absurd (quiet.written r)
     quiet_ends s (says.no_memory e) = inr refl
     quiet_ends s (says.replay_stopped asked is e h k q) = inr refl
 
-    pub said_of : (s : Status) → Gave c s → IsSaid c s ⊎ (s ≡ status.Memory)
+    pub said_of : (s : Status) → Gave c s → IsTextSaid c s ⊎ (s ≡ status.Memory)
     said_of s g = quiet_ends s g.ends
 
     module _ (asked : Asked) (is : IsAsked c.words asked) where
       job_said : (text : List ℕ) (s : Status) → Says c.files c.words text s → Wrote c text
-          → IsTold c s ⊎ (IsRefused c s ⊎ (s ≡ status.Memory))
+          → IsWholeTold c s ⊎ (IsRefused c s ⊎ (s ≡ status.Memory))
       job_said text s (usage never) a = absurd (never asked is)
       job_said text s (refuses other r at p) a = inr (inl (refused other r at p a))
       job_said text s (tells other w at p t) a = inl (told other w text s at p t a)
 
-      job_ends : (s : Status) → IsSaid c s ⊎ (s ≡ status.Memory) → IsTold c s ⊎ (IsRefused c s ⊎ (s ≡ status.Memory))
+      job_ends : (s : Status) → IsTextSaid c s ⊎ (s ≡ status.Memory) → IsWholeTold c s ⊎ (IsRefused c s ⊎ (s ≡ status.Memory))
       job_ends s (inl h) = job_said h.text s h.said h.wrote
       job_ends s (inr e) = inr (inr e)
 
-      pub asked_of : (s : Status) → Gave c s → IsTold c s ⊎ (IsRefused c s ⊎ (s ≡ status.Memory))
+      pub asked_of : (s : Status) → Gave c s → IsWholeTold c s ⊎ (IsRefused c s ⊎ (s ≡ status.Memory))
       asked_of s g = job_ends s (said_of s g)

@@ -2,7 +2,7 @@
 use Rattle.std.proofs.Common.{◌≡◌, ℕ, Bool, true, false, List, [], Option, Result, Ok, Err, sym, ap, subst}
 use Rattle.ar_io.proofs.Writing.{front_longer}
 use Rattle.ar_io.specs.Writing.{SinkState, IsFront, Appended, WroteFront}
-use Rattle.ar_io.specs.WritingInside.{Writes}
+use Rattle.ar_io.specs.Handing.{Writes}
 use Rattle.ar_io.specs.declared.outside.SinkFailed.{SinkFailed}
 use Rattle.ar_io.proofs.Gathering.{put_whole, put_front, put_nothing, rose_failed}
 use Rattle.ar_io.specs.Gathering.{gathered_state}

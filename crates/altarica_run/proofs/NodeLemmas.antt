@@ -19,7 +19,7 @@ use Rattle.zdd_families.specs.Sections.{IsMoreThan}
 use Rattle.altarica_run.specs.Follows.{Call, Gave, SinkRose}
 use Rattle.altarica_run.specs.Nodes.{HasConflict, HasEnough, IsTextOfCuts, OfAllReady}
 use Rattle.job_stages.specs.Stages.{Ready, Passes, lists_cuts}
-use Rattle.altarica_run.specs.Statuses.{IsTold, IsRefused, IsNotRead, Meaning_of}
+use Rattle.altarica_run.specs.Statuses.{IsWholeTold, IsRefused, IsNotRead, Meaning_of}
 use Rattle.job_stages.specs.Tells.{MayNeedMore, Tells, check, flat, replay, fragment, equations, cuts, make, explains, unsettled, checks, in_short, conflict, nodes}
 use Rattle.job_stages.specs.declared.status.Status.{Status}
 use Rattle.job_stages.specs.declared.status.Status.TheVariants as status
@@ -132,7 +132,7 @@ module _ (c : Call) (asked : Asked) (one : (a b : Asked) → IsAsked c.words a �
       → Meaning_of c s → (s ≡ end) ⊎ Other s
   ends_so end s all m = go s m
     where
-      told : (u : Status) → IsTold c u → (u ≡ end) ⊎ Other u
+      told : (u : Status) → IsWholeTold c u → (u ≡ end) ⊎ Other u
       told u t =
           let same = one t.asked asked t.is_job is in
           inl (all t.ready (subst (λ (j : Asked). Passes c.files j (Ok t.ready)) same t.passes) t.text u

@@ -68,7 +68,7 @@ pub data LacksScript (c : Call) (asked : Asked) (name : List ℕ) : Type 0 where
   model : RoseAt c asked.job.model → Wrote c (line_of (NotRead Model)) → LacksScript c asked name
 
 -- the text that the words say was written, and the status is theirs
-pub record IsSaid (c : Call) (status : Status) : Type 0 where
+pub record IsTextSaid (c : Call) (status : Status) : Type 0 where
   pub text : List ℕ
   pub said : Says c.files c.words text status
   pub wrote : Wrote c text

@@ -15,7 +15,7 @@ use Rattle.job_stages.specs.declared.status.Status.{Status}
 use Rattle.job_stages.specs.declared.status.Status.TheVariants.{Done, Usage, Syntax, Rule, Outside, Fault, Nodes, Read, Write, Memory, Size, Script}
 
 -- all stages of the job are passed, and its whole text was written
-pub record IsTold (c : Call) (status : Status) : Type 0 where
+pub record IsWholeTold (c : Call) (status : Status) : Type 0 where
   pub asked : Asked
   pub is_job : IsAsked c.words asked
   pub ready : Ready
@@ -45,13 +45,13 @@ pub record IsNotRead (c : Call) : Type 0 where
 
 -- what each status means
 abbrev pub Meaning_of : Call → Status → Type 0
-Meaning_of c Done = IsTold c Done
+Meaning_of c Done = IsWholeTold c Done
 Meaning_of c Usage = IsNoJob c.words × Wrote c (line_of refusal.Usage)
 Meaning_of c Syntax = IsRefused c Syntax
 Meaning_of c Rule = IsRefused c Rule
 Meaning_of c Outside = IsRefused c Outside
-Meaning_of c Fault = IsTold c Fault
-Meaning_of c Nodes = IsTold c Nodes
+Meaning_of c Fault = IsWholeTold c Fault
+Meaning_of c Nodes = IsWholeTold c Nodes
 Meaning_of c Read = IsNotRead c
 Meaning_of c Write = SinkRose c
 Meaning_of c Memory = Unit {0}

@@ -3,9 +3,9 @@
 ghost use Rattle.std.specs.Prelude.{◌≡◌, ◌≢◌, ◌⊎◌};
 ghost use Rattle.run_words.specs.declared.jobs.Asked.{Asked};
 ghost use Rattle.run_words.specs.Jobs.{IsAsked};
-ghost use Rattle.altarica_run.specs.Follows.{Call, Gave, SinkRose, IsQuiet, IsPrefix, IsSaid};
+ghost use Rattle.altarica_run.specs.Follows.{Call, Gave, SinkRose, IsQuiet, IsPrefix, IsTextSaid};
 ghost use Rattle.job_stages.specs.Jobs.{IsNoJob};
-ghost use Rattle.altarica_run.specs.Statuses.{IsTold, IsRefused, Meaning_of};
+ghost use Rattle.altarica_run.specs.Statuses.{IsWholeTold, IsRefused, Meaning_of};
 ghost use Rattle.job_stages.specs.declared.status.Status.{Status};
 ghost use Rattle.job_stages.specs.declared.status.Status.TheVariants as status;
 
@@ -23,8 +23,8 @@ pub fn answers_in_words()
     ensures usage { (c : Call) (s : Status) → Gave c s → IsNoJob c.words → (SinkRose c → ⊥)
         → (s ≡ status.Usage) ⊎ (s ≡ status.Memory) }
     ensures nothing_gives_up { (c : Call) (s : Status) → Gave c s → IsQuiet c
-        → IsSaid c s ⊎ (s ≡ status.Memory) }
+        → IsTextSaid c s ⊎ (s ≡ status.Memory) }
     ensures nothing_gives_up_on_jobs { (c : Call) (s : Status) (asked : Asked) → Gave c s → IsQuiet c
-        → IsAsked c.words asked → IsTold c s ⊎ (IsRefused c s ⊎ (s ≡ status.Memory)) }
+        → IsAsked c.words asked → IsWholeTold c s ⊎ (IsRefused c s ⊎ (s ≡ status.Memory)) }
     ensures no_fault_passes_unseen { (c : Call) (s : Status) → Gave c s → s ≢ status.Write → c.sink_new ≡ c.sink_old }
 {}

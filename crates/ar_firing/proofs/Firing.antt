@@ -16,7 +16,7 @@ use Rattle.ar_meaning.specs.Steps.{Clashes, LeavesDomain, Receives, changed, kep
 use Rattle.ar_meaning.specs.Steps as s
 use Rattle.ar_meaning.specs.Runs.{Label, first_values}
 use Rattle.ar_firing.specs.Fragment.{IsOpen, IsModeOf, named, first, At, Edge, Path, root, edge}
-use Rattle.ar_firing.specs.Static.{Only, IsOf, transition, IsStatic}
+use Rattle.ar_firing.specs.Static.{Only, ReadsItselfAlone, transition, IsStatic}
 use Rattle.ar_firing.specs.Cuts.{Reaches, Conflicts, IsFirable}
 use Rattle.ar_firing.specs.CutsInside.{MovesTo}
 use Rattle.ar_firing.specs.Cuts as cuts
@@ -39,15 +39,15 @@ module _ {V : Type 0} {P Q : V → Value → Type 0} (k : V) (on : (x : V) (w : 
   only_passes h (f.one_and {e = e} {b = b} d ds) =
       f.one_and (only_yields (h zero e b refl) d) (only_passes (λ n e b s. h (suc n) e b s) ds)
 
-  pub only_can : {w : Way V} → IsOf k w → Can P w → Can Q w
+  pub only_can : {w : Way V} → ReadsItselfAlone k w → Can P w → Can Q w
   only_can (transition o a) (guard_holds d) = guard_holds (only_yields o d)
 
-  pub only_effects : {w : Way V} {x : V} {v : Value} → IsOf k w → Effects P w x v → Effects Q w x v
+  pub only_effects : {w : Way V} {x : V} {v : Value} → ReadsItselfAlone k w → Effects P w x v → Effects Q w x v
   only_effects (transition o h) (acts a i p d) =
       let b = h i.place a i.stands in
       acts a i (only_passes b.conditions p) (only_yields b.value d)
 
-pub only_target : {V : Type 0} {P : V → Value → Type 0} {k : V} {w : Way V} {x : V} {v : Value} → IsOf k w
+pub only_target : {V : Type 0} {P : V → Value → Type 0} {k : V} {w : Way V} {x : V} {v : Value} → ReadsItselfAlone k w
     → Effects P w x v → x ≡ k
 only_target (transition o h) (acts a i p d) = let b = h i.place a i.stands in b.target
 
@@ -153,7 +153,7 @@ module _ {V : Type 0} (sys : System V) (dropped : List ℕ) (keyed : AreKeyed sy
       pub variable : Variable V
       pub stands : Stands sys.net.variables number variable
       pub is_state : variable.is_state ≡ true
-      pub alone : IsOf variable.key w
+      pub alone : ReadsItselfAlone variable.key w
       pub from : Value
       pub to : Value
       pub value : Stands t number from
@@ -343,7 +343,7 @@ module _ {V : Type 0} (sys : System V) (dropped : List ℕ) (keyed : AreKeyed sy
       stands_one sys.net.variables n h.variable e.variable
       (subst (λ z. Stands sys.net.variables z h.variable) i h.stands) e.is_variable in
       only_can e.variable.key (value_from t n e.variable from e.is_variable v)
-      (subst (λ z. IsOf z.key e.way) j h.alone) e.can
+      (subst (λ z. ReadsItselfAlone z.key e.way) j h.alone) e.can
     where
       mode_same : {u : ℕ} {w : Way V} {m n : ℕ} → IsModeOf sys u w m → IsModeOf sys u w n → m ≡ n
       mode_same (named a) (named b) = first_same a b

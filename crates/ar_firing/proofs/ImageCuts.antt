@@ -1,7 +1,7 @@
 -- A system and its image have the same firing orders, cuts and conflict sets.
 use Rattle.std.proofs.Common.{ℕ, List, sym, ◌∙◌, subst}
 use Rattle.domains.specs.declared.Value.{Value}
-use Rattle.typed_expr.specs.PairsInside.{turned}
+use Rattle.typed_expr.specs.PairsInside.{turned_pairs}
 use Rattle.typed_expr.specs.declared.expr.Expr.{Expr}
 use Rattle.typed_expr.proofs.Renaming.{carries}
 use Rattle.ar_meaning.specs.Systems.{Way, System}
@@ -89,7 +89,7 @@ module _ {V W : Type 0} (same : V → W → Type 0) (here : System V) (there : S
   pub makes_back : (observer : Expr V) (other : Expr W) → Expr_renames same observer other
       → (wanted : Value) (set : List ℕ) → Makes there dropped other wanted set → Makes here dropped observer wanted set
   makes_back observer other q wanted set m =
-      makes_there (turned same) there here (image_turned same image) dropped other observer
+      makes_there (turned_pairs same) there here (image_turned same image) dropped other observer
       (record { renames = renames_turned same q.renames }) wanted set m
 
   pub cut_there : (observer : Expr V) (other : Expr W) → Expr_renames same observer other
@@ -102,7 +102,7 @@ module _ {V W : Type 0} (same : V → W → Type 0) (here : System V) (there : S
   pub conflict_set_there : (set : List ℕ) → ConflictSet here dropped set → ConflictSet there dropped set
   conflict_set_there set c =
       least_on (MeetsConflict there dropped) (MeetsConflict here dropped)
-      (λ s m. meets_there (turned same) there here (image_turned same image) dropped m)
+      (λ s m. meets_there (turned_pairs same) there here (image_turned same image) dropped m)
       (λ s l. meets_there same here there image dropped l.has) c
 
   pub cut_back : (observer : Expr V) (other : Expr W) → Expr_renames same observer other

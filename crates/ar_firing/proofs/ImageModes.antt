@@ -4,7 +4,7 @@ use Rattle.ar_base.specs.Lists.{Stands, IsOneOf, IsFirst, HasNo, Along}
 use Rattle.ar_base.specs.Lists as l
 use Rattle.ar_base.proofs.Standing.{stands_one, along_length}
 use Rattle.domains.specs.declared.Value.{Value}
-use Rattle.typed_expr.specs.PairsInside.{turned}
+use Rattle.typed_expr.specs.PairsInside.{turned_pairs}
 use Rattle.typed_expr.specs.Renames.{Renames}
 use Rattle.typed_expr.specs.declared.expr.Expr.{Expr, out-Expr}
 use Rattle.typed_expr.proofs.Renaming.{Mentioned, mentions_carry}
@@ -151,9 +151,9 @@ module _ {V W : Type 0} (same : V → W → Type 0) (here : System V) (there : S
   is_mode_there unit {v = v} {w = w} q h =
       let behind = image_turned same image in
       let on = named_there same here there image dropped unit q in
-      let off = named_there (turned same) there here behind dropped unit (way_turned same q) in
+      let off = named_there (turned_pairs same) there here behind dropped unit (way_turned same q) in
       let on' = state_there same here there image dropped unit in
-      let off' = state_there (turned same) there here behind dropped unit in
+      let off' = state_there (turned_pairs same) there here behind dropped unit in
       elim h [
         | named f ↦ named (first_there image.net.variables behind.net.variables on off f)
         | first k f ↦
@@ -178,7 +178,7 @@ module _ {V W : Type 0} (same : V → W → Type 0) (here : System V) (there : S
   pub effects_at_back : {v : Way V} {w : Way W} (x : V) (y : W) (m d : Value) → Way_renames same v w → same x y
       → Effects (At y m) w y d → Effects (At x m) v x d
   effects_at_back x y m d q s e =
-      effects_at_there (turned same) there here (image_turned same image) dropped y x m d (way_turned same q) s e
+      effects_at_there (turned_pairs same) there here (image_turned same image) dropped y x m d (way_turned same q) s e
 
   pub edge_there : {l : Label} {n : ℕ} {from to : Value} → Edge here dropped l n from to
       → Edge there dropped l n from to
@@ -226,7 +226,7 @@ module _ {V W : Type 0} (same : V → W → Type 0) (here : System V) (there : S
 module _ {V W : Type 0} (same : V → W → Type 0) (here : System V) (there : System W) (image : IsImage same here there)
     (dropped : List ℕ) where
   edge_back : {l : Label} {n : ℕ} {from to : Value} → Edge there dropped l n from to → Edge here dropped l n from to
-  edge_back e = edge_there (turned same) there here (image_turned same image) dropped e
+  edge_back e = edge_there (turned_pairs same) there here (image_turned same image) dropped e
 
   under_there : {n low : ℕ} {m : Value} {rows : List Row} → Under here dropped n m low rows
       → Under there dropped n m low rows
@@ -245,7 +245,7 @@ module _ {V W : Type 0} (same : V → W → Type 0) (here : System V) (there : S
   pub forest_there : {trees : List ModeTree} → IsForest here dropped trees → IsForest there dropped trees
   forest_there f = record {
     sound = λ k t s. mode_tree_there t (f.sound k t s);
-    whole = λ n m. f.whole n (mode_variable_there (turned same) there here (image_turned same image) dropped n m);
+    whole = λ n m. f.whole n (mode_variable_there (turned_pairs same) there here (image_turned same image) dropped n m);
     ascends = f.ascends;
   }
 

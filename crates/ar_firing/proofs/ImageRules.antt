@@ -2,7 +2,7 @@
 use Rattle.std.proofs.Common.{◌≡◌, ℕ, List, Option, Contains, refl, sym, ◌∙◌, subst}
 use Rattle.ar_base.specs.Lists.{Stands}
 use Rattle.domains.specs.declared.Value.{Value}
-use Rattle.typed_expr.specs.PairsInside.{turned}
+use Rattle.typed_expr.specs.PairsInside.{turned_pairs}
 use Rattle.typed_expr.specs.Yields.{Level}
 use Rattle.typed_expr.specs.Renames.{Renames}
 use Rattle.typed_expr.specs.Possible.{IsWide}
@@ -32,7 +32,7 @@ module _ {V W : Type 0} (same : V → W → Type 0) (here : System V) (there : S
       let behind = image_turned same image in
       let e = partner behind.events l.event i.event i.is_event in
       let v = partner e.related.ways l.way w i.is_way in
-      (v.item, record { event = e.item; is_event = e.stands; is_way = v.stands }, way_turned (turned same) v.related)
+      (v.item, record { event = e.item; is_event = e.stands; is_way = v.stands }, way_turned (turned_pairs same) v.related)
 
   pub keeps_s1_there : KeepsS1 here → KeepsS1 there
   keeps_s1_there k = record { each = λ l w i. let v = way_back i in transition_there v.2 (k.each l v.0 v.1) }
@@ -57,7 +57,7 @@ module _ {V W : Type 0} (same : V → W → Type 0) (here : System V) (there : S
     pub keeps_s2_there : KeepsS2 here dropped → KeepsS2 there dropped
     keeps_s2_there k = record {
       each = λ unit h.
-          let s = k.each unit (transitions_there (turned same) there here (image_turned same image) dropped unit h) in
+          let s = k.each unit (transitions_there (turned_pairs same) there here (image_turned same image) dropped unit h) in
           let p = partner image.net.variables s.number s.variable s.stands in
           record {
             number = s.number;
@@ -258,18 +258,18 @@ module _ {V W : Type 0} (same : V → W → Type 0) (here : System V) (there : S
         assignments = λ j b s h.
             let a =
             partner behind.net.assertions j b s in k.assignments j a.item a.stands
-            (assign_wide (turned same) there here behind a.related h);
+            (assign_wide (turned_pairs same) there here behind a.related h);
         observers = λ j f s h.
             let e =
             partner behind.observers j f s in k.observers j e.item e.stands
-            (wide (turned same) there here behind e.related.renames h);
+            (wide (turned_pairs same) there here behind e.related.renames h);
       }
 
 -- both ways
 module _ {V W : Type 0} (same : V → W → Type 0) (here : System V) (there : System W) (image : IsImage same here there)
     (dropped : List ℕ) where
   live_back : {l : Label} {n : ℕ} {from to : Value} → IsLive there dropped l n from to → IsLive here dropped l n from to
-  live_back h = live_there (turned same) there here (image_turned same image) dropped h
+  live_back h = live_there (turned_pairs same) there here (image_turned same image) dropped h
 
   one_way : {l : Label} {v w : Way W} → IsKept there dropped l v → IsKept there dropped l w → v ≡ w
   one_way a b = way_same there a.is_way b.is_way
@@ -278,7 +278,7 @@ module _ {V W : Type 0} (same : V → W → Type 0) (here : System V) (there : S
   keeps_s3_there k = record {
     each = λ l w o.
         let behind = image_turned same image in
-        let v = kept_there (turned same) there here behind dropped o in
+        let v = kept_there (turned_pairs same) there here behind dropped o in
         let h = k.each l v.way v.is_kept in
         let m = mode_there same here there image dropped h.mode in
         let e : m.way ≡ w = one_way m.mode.is_kept o in
@@ -287,7 +287,7 @@ module _ {V W : Type 0} (same : V → W → Type 0) (here : System V) (there : S
           variable = m.variable;
           mode = subst (λ z. HasModeVariable there dropped l z h.number m.variable) e m.mode;
           alone = λ y g.
-              let n = guard_there (turned same) y v.related g in
+              let n = guard_there (turned_pairs same) y v.related g in
               let i : n.other ≡ h.variable.key = h.alone n.other n.stands in
               image.net.one h.variable.key y m.variable.key (subst (λ z. same z y) i n.related) m.variable_related.key;
         };
@@ -298,22 +298,22 @@ module _ {V W : Type 0} (same : V → W → Type 0) (here : System V) (there : S
       let behind = image_turned same image in
       record {
         alone = λ l w n y h z a.
-            let m = mode_there (turned same) there here behind dropped h in
-            let g = action_there (turned same) z m.way_related a in
+            let m = mode_there (turned_pairs same) there here behind dropped h in
+            let g = action_there (turned_pairs same) z m.way_related a in
             let i : g.other ≡ m.variable.key = k.alone l m.way n m.variable m.mode g.other g.stands in
             image.net.one m.variable.key z y.key (subst (λ x. same x z) i g.related) m.variable_related.key;
         gives = λ l w n y m h.
-            let v = live_at_there (turned same) there here behind dropped h in
+            let v = live_at_there (turned_pairs same) there here behind dropped h in
             let g = k.gives l v.way n v.variable m v.is_live in
             record {
               value = g.value;
               gives =
                   effects_at_back
-                  (turned same) there here behind dropped y.key v.variable.key m g.value v.way_related
+                  (turned_pairs same) there here behind dropped y.key v.variable.key m g.value v.way_related
                   v.variable_related.key g.gives;
               one = λ d e.
                   g.one d
-                  (effects_at_there (turned same) there here behind dropped y.key v.variable.key m d v.way_related
+                  (effects_at_there (turned_pairs same) there here behind dropped y.key v.variable.key m d v.way_related
                   v.variable_related.key e);
               in_domain = subst (λ z. Contains z g.value) (sym v.variable_related.domain) g.in_domain;
             };
@@ -332,7 +332,7 @@ module _ {V W : Type 0} (same : V → W → Type 0) (here : System V) (there : S
     second = has_live_there same here there image dropped b.event b.second_variable b.second;
     two = b.two;
     has = has_live_there same here there image dropped b.event n b.has;
-    least = λ k h. b.least k (has_live_there (turned same) there here (image_turned same image) dropped b.event k h);
+    least = λ k h. b.least k (has_live_there (turned_pairs same) there here (image_turned same image) dropped b.event k h);
   }
 
   pub keeps_s6_there : KeepsS6 here dropped → KeepsS6 there dropped
@@ -352,7 +352,7 @@ module _ {V W : Type 0} (same : V → W → Type 0) (here : System V) (there : S
         k.whole e
         (record {
           number = h.number;
-          live = has_live_there (turned same) there here (image_turned same image) dropped e
+          live = has_live_there (turned_pairs same) there here (image_turned same image) dropped e
               h.number h.live;
         });
   }
@@ -386,7 +386,7 @@ module _ {V W : Type 0} (same : V → W → Type 0) (here : System V) (there : S
   first_broken_there h = record {
     breaks = breaks_there same here there image dropped h.breaks;
     lesser_kept = λ r l. keeps_there same here there image dropped r (h.lesser_kept r l);
-    is_first = λ o l b. h.is_first o l (breaks_there (turned same) there here (image_turned same image) dropped b);
+    is_first = λ o l b. h.is_first o l (breaks_there (turned_pairs same) there here (image_turned same image) dropped b);
   }
 
   pub keeps_all_there : KeepsAll here dropped → KeepsAll there dropped

@@ -9,7 +9,7 @@ use Rattle.ar_meaning.specs.Runs.{Label}
 use Rattle.ar_firing.specs.Fragment.{Path, root, edge, Edge}
 use Rattle.ar_firing.specs.Static.{IsStatic}
 use Rattle.ar_firing.specs.Cuts.{Reaches, IsFirable, AreEvents}
-use Rattle.ar_firing.specs.CutsInside.{AreInOrder}
+use Rattle.ar_firing.specs.CutsInside.{FollowTheirModes}
 use Rattle.ar_base.specs.Sets.{Within}
 use Rattle.domains.specs.declared.Value.{Value}
 use Rattle.ar_base.proofs.Standing.{stands_one, stands_none}
@@ -37,7 +37,7 @@ shifted (x ∷ front) l b k m s = let r = shifted front l b k m s in (suc r.0, o
 module _ {V : Type 0} (sys : System V) (dropped : List ℕ) (keyed : AreKeyed sys.net)
     (static : IsStatic sys dropped) where
   -- what stands on the path before a label comes before it in the order
-  before : {ls : List Label} {n : ℕ} {q : List Label} {from to : Value} → AreInOrder sys dropped ls
+  before : {ls : List Label} {n : ℕ} {q : List Label} {from to : Value} → FollowTheirModes sys dropped ls
       → (k : ℕ) (l : Label) → Stands ls k l → Path sys dropped n q from → Edge sys dropped l n from to
       → (i : ℕ) (m : Label) → Stands q i m → (j : ℕ) × (k < j) × Stands ls j m
   before o k l s (root a b c) e i m h = absurd (stands_none i m h)
@@ -83,7 +83,7 @@ module _ {V : Type 0} (sys : System V) (dropped : List ℕ) (keyed : AreKeyed sy
 
   module _ {set : List ℕ} {t u : List Value} (front : List Label) (l : Label) (b : List Label)
       (f : IsFirable sys dropped set t) (events : AreEvents (front ++ (l ∷ b)) set)
-      (order : AreInOrder sys dropped (front ++ (l ∷ b)))
+      (order : FollowTheirModes sys dropped (front ++ (l ∷ b)))
       (n : ℕ) (x : Variable V) (st : Stands sys.net.variables n x) (state : x.is_state ≡ true)
       (on : IsOneOf (f.path n) l) (r : Reaches sys dropped b u) where
     pub can_go_on : (from : Value) × (to : Value) × (e : Edge sys dropped l n from to) × Can (HasValue sys.net u) e.way

@@ -10,7 +10,7 @@ use Rattle.ar_meaning.specs.Runs.{Label}
 use Rattle.ar_firing.specs.Fragment.{Path, root, edge, Edge}
 use Rattle.ar_firing.specs.Static.{IsStatic}
 use Rattle.ar_firing.specs.Cuts.{IsFirable, AreEvents}
-use Rattle.ar_firing.specs.CutsInside.{IsLegalOrder, AreInOrder}
+use Rattle.ar_firing.specs.CutsInside.{IsLegalOrder, FollowTheirModes}
 use Rattle.ar_base.specs.Sets.{Within}
 use Rattle.ar_firing.specs.Forest.{firing_line, IsLine}
 use Rattle.ar_firing.proofs.Ends.{split_live, split, path_unique, live, label_same, path_same, on_path}
@@ -218,7 +218,7 @@ module _ {V : Type 0} (sys : System V) (dropped : List ℕ) (keyed : AreKeyed sy
       once = (line_once 0 sys.net.variables at_start).once;
     }
 
-    line_in_order : AreInOrder sys dropped whole
+    line_in_order : FollowTheirModes sys dropped whole
     line_in_order = record {
       after = λ k l n from to m ms s p e.
           let c = on_paths k l s in

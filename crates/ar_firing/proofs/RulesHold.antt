@@ -8,7 +8,7 @@ use Rattle.ar_meaning.specs.Runs.{Label}
 use Rattle.ar_meaning.proofs.OneAnswer.{first_same, no_first}
 use Rattle.ar_meaning.proofs.Dependence.{tests_at}
 use Rattle.ar_firing.specs.Fragment.{GuardNames, guard, ActionNames, action, as_target, as_source, IsModeOf, named, first}
-use Rattle.ar_firing.specs.Static.{IsOf, HasMode, Leads, IsStatic}
+use Rattle.ar_firing.specs.Static.{ReadsItselfAlone, HasMode, LeadsByWay, IsStatic}
 use Rattle.ar_firing.specs.Static as g
 use Rattle.ar_firing.specs.Rules.{IsTransition, transition, KeepsS1, BreaksS1, KeepsS2, BreaksS2, HasModeVariable, KeepsS3, BreaksS3, GivesOne, GivesOther, nothing, two, outside, KeepsS4, BreaksS4, names, gives, AreTwoEdges, ways, variables, modes, KeepsS5, BreaksS5, KeepsS6, BreaksS6, stays, by_events, by_edges, initial, KeepsS7, BreaksS7, ObserverBreaksS7, KeepsS8, BreaksS8, Spot, AtEvent, AtUnit, AtVariable, AtObserver, AtWhole, IsShownBefore, events, units, observers, variable_first, Rule, S1, S2, S3, S4, S5, S6, S7, S8, BreaksStaticRule, s1, s2, s3, s4, s5, s6, s7, s7_observer, s8, KeepsStaticRule, rule_number, IsFirstBroken, IsAskedUpTo, KeepsUpTo}
 use Rattle.ar_firing.specs.RulesInside.{KeepsAll}
@@ -163,7 +163,7 @@ module _ {V : Type 0} (sys : System V) where
     }
       where
         alone : (x : V) (w : Way V) → ((y : V) → GuardNames y w → y ≡ x) → ((y : V) → ActionNames y w → y ≡ x)
-            → IsTransition w → IsOf x w
+            → IsTransition w → ReadsItselfAlone x w
         alone x w h k (transition {d = d}) = g.transition (record { only = λ y m. h y (guard m) })
             (λ n a s. record {
               target = k a.target (action a (record { place = n; stands = s }) (as_target refl));

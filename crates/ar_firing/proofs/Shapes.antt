@@ -12,7 +12,7 @@ use Rattle.ar_firing.specs.Static.{IsStatic}
 use Rattle.ar_firing.specs.Forest.{Row, Under, no_more, next, ModeTree, IsModeTree, IsForest}
 use Rattle.ar_firing.proofs.Ends.{path_unique, end_same, label_same}
 use Rattle.ar_firing.proofs.TreeEdges.{row_is_live}
-use Rattle.ar_firing.specs.Trees.{IsTree, AreTrees, AreApart}
+use Rattle.ar_firing.specs.Trees.{IsTree, AreTrees, HaveOwnEvents}
 
 module _ {V : Type 0} (sys : System V) (dropped : List ℕ) (keyed : AreKeyed sys.net)
     (static : IsStatic sys dropped) where
@@ -150,7 +150,7 @@ module _ {V : Type 0} (sys : System V) (dropped : List ℕ) (keyed : AreKeyed sy
         (λ l. let a = forest.ascends k j t s l h i in absurd (omega (arith, a, e))) o) (cases_order j k)
 
     -- no event has edges in two trees
-    pub forest_apart : AreApart trees
+    pub forest_apart : HaveOwnEvents trees
     forest_apart = record {
       one = λ j k s t a b c d l m i h x y e.
           let u =

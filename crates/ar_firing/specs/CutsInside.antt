@@ -31,7 +31,7 @@ pub data MovesTo {V : Type 0} (net : Net V) : List Value → Answer → Type 0 w
   fails : {state : List Value} {f : FlowFault} → Flows net state (Fails f) → MovesTo net state (Refused (Flow f))
 
 -- in this list, the last first, each label stands after the one that enters the mode that it leaves
-pub record AreInOrder {V : Type 0} (sys : System V) (dropped : List ℕ) (ls : List Label) : Type 0 where
+pub record FollowTheirModes {V : Type 0} (sys : System V) (dropped : List ℕ) (ls : List Label) : Type 0 where
   pub after : (k : ℕ) (l : Label) (n : ℕ) (from to : Value) (m : Label) (ms : List Label) → Stands ls k l
       → Path sys dropped n (m ∷ ms) from → Edge sys dropped l n from to
       → (j : ℕ) × (k < j) × Stands ls j m
@@ -43,4 +43,4 @@ pub record IsLegalOrder {V : Type 0} (sys : System V) (dropped : List ℕ) (set 
   pub on_paths : (k : ℕ) (l : Label) → Stands ls k l
       → (n : ℕ) × (x : Variable V) × Stands sys.net.variables n x × (x.is_state ≡ true) × IsOneOf (is_firable.path n) l
   pub events : AreEvents ls set
-  pub in_order : AreInOrder sys dropped ls
+  pub in_order : FollowTheirModes sys dropped ls

@@ -10,7 +10,7 @@ use Rattle.ar_meaning.specs.Found.{IsAnswer}
 use Rattle.ar_firing.specs.Cuts.{IsFirable}
 
 -- the state has flows, and top says whether the observer then has the wanted value
-pub record Shows {V : Type 0} (net : Net V) (state : List Value) (observer : Expr V) (wanted : Value)
+pub record ShowsObserver {V : Type 0} (net : Net V) (state : List Value) (observer : Expr V) (wanted : Value)
     (top : Bool) : Type 0 where
   pub values : List Value
   pub flows : Flows net state (Total values)
@@ -32,7 +32,7 @@ pub record Agrees {V : Type 0} (sys : System V) (dropped : List ℕ) (observer :
     (conflict top : List ℕ → Bool) : Type 0 where
   pub fault : (set : List ℕ) (t : List Value) → IsFirable sys dropped set t → conflict set ≡ true → HasFault sys.net t
   pub total : (set : List ℕ) (t : List Value) → IsFirable sys dropped set t → conflict set ≡ false
-      → Shows sys.net t observer wanted (top set)
+      → ShowsObserver sys.net t observer wanted (top set)
 
 -- the set is firable, and the test is true of it
 pub record IsFirableWith {V : Type 0} (sys : System V) (dropped : List ℕ) (test : List ℕ → Bool)

@@ -3,18 +3,12 @@
 use Rattle.std.specs.Prelude.{◌≡◌, ℕ, List}
 use Rattle.ar_base.specs.Lists.{Stands}
 use Rattle.ar_meaning.specs.Systems.{Assign, Variable, System}
-use Rattle.ar_firing.specs.Rules.{variables, variables, Rule, KeepsStaticRule}
-
--- S7: each subexpression, and each step of a fold, of an observer and of the expression and conditions of an
--- assertion's assignment has at most 64 possible values.
--- Shown with the flow assigned, or with the observer
+use Rattle.ar_firing.specs.Rules.{Rule, KeepsStaticRule}
 
 -- each assignment of an assertion has a variable of the net as its target, as it must have to be shown
 pub record HasTargets {V : Type 0} (sys : System V) : Type 0 where
   pub each : (k : ℕ) (a : Assign V) → Stands sys.net.assertions k a
       → (n : ℕ) × (x : Variable V) × Stands sys.net.variables n x × (a.target ≡ x.key)
-
--- S8: at most 2,048 events have a live edge. Shown with the whole model
 
 -- every rule is kept
 pub record KeepsAll {V : Type 0} (sys : System V) (dropped : List ℕ) : Type 0 where

@@ -22,12 +22,12 @@ pub record ActsOn {V : Type 0} (x : V) (a : Assign V) : Type 0 where
   pub value : Only x (out-Expr V a.value)
 
 -- a transition that reads and writes x alone
-pub data IsOf {V : Type 0} (x : V) : Way V → Type 0 where
+pub data ReadsItselfAlone {V : Type 0} (x : V) : Way V → Type 0 where
   transition : {d : Transition V} → Only x (out-Expr V d.guard)
-      → ((n : ℕ) (a : Assign V) → Stands d.action n a → ActsOn x a) → IsOf x (Leaf d)
+      → ((n : ℕ) (a : Assign V) → Stands d.action n a → ActsOn x a) → ReadsItselfAlone x (Leaf d)
 
 -- an edge of this way from this mode
-pub record Leads {V : Type 0} (sys : System V) (dropped : List ℕ) (l : Label) (n : ℕ) (from : Value) : Type 0 where
+pub record LeadsByWay {V : Type 0} (sys : System V) (dropped : List ℕ) (l : Label) (n : ℕ) (from : Value) : Type 0 where
   pub to : Value
   pub edge : Edge sys dropped l n from to
 
@@ -38,14 +38,14 @@ pub record HasMode {V : Type 0} (sys : System V) (unit : ℕ) (w : Way V) : Type
   pub stands : Stands sys.net.variables number variable
   pub is_state : variable.is_state ≡ true
   pub is_mode : IsModeOf sys unit w number
-  pub alone : IsOf variable.key w
+  pub alone : ReadsItselfAlone variable.key w
 
 -- each open way reads and writes its mode variable alone, and is an edge wherever it can fire at a mode that is
 -- reached; the fifth and the sixth rule are kept
 pub record IsStatic {V : Type 0} (sys : System V) (dropped : List ℕ) : Type 0 where
   pub modes : (l : Label) (w : Way V) (o : IsOpen sys dropped l w) → HasMode sys o.is_kept.is_way.event.unit w
   pub leads : (l : Label) (w : Way V) (n : ℕ) (x : Variable V) (m : Value) → IsLiveAt sys dropped l w n x m
-      → Leads sys dropped l n m
+      → LeadsByWay sys dropped l n m
   pub one_edge : KeepsS5 sys dropped
   pub enters_once : KeepsS6 sys dropped
 

@@ -6,7 +6,7 @@ use Rattle.ar_meaning.specs.Runs.{Label}
 use Rattle.ar_firing.specs.Forest.{Row, ModeTree}
 
 -- no event has edges in two of the trees
-pub record AreApart (trees : List ModeTree) : Type 0 where
+pub record HaveOwnEvents (trees : List ModeTree) : Type 0 where
   pub one : (j k : ℕ) (s t : ModeTree) (a b c d : Value) (l m : Label) → Stands trees j s → Stands trees k t
       → IsOneOf s.edges (record { from = a; label = l; to = b })
       → IsOneOf t.edges (record { from = c; label = m; to = d }) → l.event ≡ m.event → j ≡ k
@@ -24,4 +24,4 @@ pub record IsTree (tree : ModeTree) : Type 0 where
 -- each is a tree, and no event has edges in two of them
 pub record AreTrees (trees : List ModeTree) : Type 0 where
   pub each : (k : ℕ) (tree : ModeTree) → Stands trees k tree → IsTree tree
-  pub apart : AreApart trees
+  pub apart : HaveOwnEvents trees

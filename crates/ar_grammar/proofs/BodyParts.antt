@@ -19,8 +19,8 @@ use Rattle.ar_grammar.specs.Members.{ReadsTypeForm, ReadsDeclared, ReadsSingle, 
 use Rattle.expression_grammar.specs.Texts.{list_of, path_tokens, expr_tokens}
 use Rattle.ar_grammar.specs.Texts.{is_type, instr_tokens, declared_rest, body_tokens}
 use Rattle.ar_grammar.specs.Texts as text
-use Rattle.ar_grammar.specs.Parts.{event_tokens, transition_of, section_of, declaration_tokens, alias_tokens, value_tokens, kept_value_tokens, parameter_tokens, single_tokens, unit_of, keyed_of, member_tokens, later_tokens, sections_tokens, inside_body}
-use Rattle.expression_grammar.specs.Results.{kind_at, Plain, Spans, Takes, Arrives, Finds, is_word, is_name}
+use Rattle.ar_grammar.specs.Parts.{event_tokens, transition_form, section_of, declaration_tokens, alias_tokens, value_tokens, kept_value_tokens, parameter_tokens, single_tokens, unit_of, keyed_of, member_tokens, later_tokens, sections_tokens, inside_body}
+use Rattle.expression_grammar.specs.Results.{first_token_kind, Plain, Spans, TakesTokens, Arrives, FindsRefusal, is_word, is_name}
 use Rattle.ar_grammar.specs.Results.{ends_transitions, ends_assertions, ends_body, ends_members, ends_section, begins_instr, begins_keyed, begins_member, begins_section, begins_later, begins_body}
 use Rattle.expression_grammar.proofs.Finding.{Follows, Loops, loops_next, kind_join, kind_before, kind_behind, plain_kind, apart, fails, token_kind, then_kind, follows_many, spans_then, spans_map, spans_push}
 use Rattle.expression_grammar.proofs.ExpressionForms.{then_map, word_from}
@@ -29,18 +29,18 @@ use Rattle.expression_grammar.proofs.TextParts.{first_of, one_kind, one_as}
 -- The first token of what was taken
 
 pub takes_at : {A : Type 0} (P Q : A → Form) (r : Result A Refusal) (old new : Tokens) (k : TokenKind)
-    → Takes P r old new → kind_at old ≡ k
-    → ((x : A) (next : TokenKind) (ts : Tokens) → P x next ts → kind_or next ts ≡ k → Q x next ts) → Takes Q r old new
+    → TakesTokens P r old new → first_token_kind old ≡ k
+    → ((x : A) (next : TokenKind) (ts : Tokens) → P x next ts → kind_or next ts ≡ k → Q x next ts) → TakesTokens Q r old new
 takes_at P Q (Ok x) old new k t e f =
     record {
       front = t.front;
       split = t.split;
-      form = f x (kind_at new) t.front t.form (sym (kind_before t.front new) ∙ sym (ap kind_at t.split) ∙ e);
+      form = f x (first_token_kind new) t.front t.form (sym (kind_before t.front new) ∙ sym (ap first_token_kind t.split) ∙ e);
     }
 takes_at P Q (Err x) old new k t e f = tt
 
-pub spans_first : {A : Form} {old new : Tokens} → (s : Spans A old new) → kind_or (kind_at new) s.front ≡ kind_at old
-spans_first {new = new} s = sym (kind_before s.front new) ∙ sym (ap kind_at s.split)
+pub spans_first : {A : Form} {old new : Tokens} → (s : Spans A old new) → kind_or (first_token_kind new) s.front ≡ first_token_kind old
+spans_first {new = new} s = sym (kind_before s.front new) ∙ sym (ap first_token_kind s.split)
 
 -- Declarations by their type
 
@@ -296,7 +296,7 @@ member_keyed n next ts (inr h) k = absurd (k (then_kind h))
 -- Sections
 
 pub section_transition : (n : ℕ) (next : TokenKind) (ts : Tokens) → section_of n next ts
-    → kind_or next ts ≡ Reserved TRANSITION → (token (Reserved TRANSITION) ▸ many (transition_of n)) next ts
+    → kind_or next ts ≡ Reserved TRANSITION → (token (Reserved TRANSITION) ▸ many (transition_form n)) next ts
 section_transition n next ts (inl h) k = h
 section_transition n next ts (inr h) k = apart (is_word ASSERTION) (then_kind h) k refl refl
 
@@ -425,7 +425,7 @@ sections_follow = record { holds = λ n next ts h s. by_sections n next ts h s }
 -- Bodies
 
 pub finds_body : {A : Type 0} {left : ℕ} {r : Result A Refusal} {old new : Tokens} → left ≢ 0
-    → Finds inside_body ends_body (left - 1) r old new → Finds (body_tokens deep) ends_body left r old new
+    → FindsRefusal inside_body ends_body (left - 1) r old new → FindsRefusal (body_tokens deep) ends_body left r old new
 finds_body {A} {left} {r} {old} {new} room f = record {
   front = f.front;
   passed = f.passed;
@@ -446,16 +446,16 @@ finds_body {A} {left} {r} {old} {new} room f = record {
     arrives_inside m new after (Err Depth) a = omega (arith, room, a)
     arrives_inside m new after (Err Memory) a = a
 
-    by_nesting : Plain old → (n : ℕ) (other ts after : Tokens) → kind_at other ≡ kind_at new
-        → body_tokens deep n (kind_at after) ts → f.front ++ other ≡ ts ++ after → ends_body (kind_at after) ≡ true
+    by_nesting : Plain old → (n : ℕ) (other ts after : Tokens) → first_token_kind other ≡ first_token_kind new
+        → body_tokens deep n (first_token_kind after) ts → f.front ++ other ≡ ts ++ after → ends_body (first_token_kind after) ≡ true
         → Arrives left n r other after
     by_nesting p zero other ts after same (inl h) w s =
         arrives_empty other after r (f.only p 0 other ts after same
         (record { front = []; back = ts; split = refl; first = ([], refl); second = inl h }) w s)
     by_nesting p zero other ts after same (inr h) w s =
-        let first : kind_or (kind_at after) ts ≡ kind_at old =
-        sym (kind_before ts after) ∙ sym (ap kind_at w) ∙ kind_behind f.front other new same
-        ∙ sym (ap kind_at f.passed) in
+        let first : kind_or (first_token_kind after) ts ≡ first_token_kind old =
+        sym (kind_before ts after) ∙ sym (ap first_token_kind w) ∙ kind_behind f.front other new same
+        ∙ sym (ap first_token_kind f.passed) in
         absurd (plain_kind old p (sym first ∙ token_kind h))
     by_nesting p (suc n) other ts after same h w s =
         arrives_inside n other after r (f.only p n other ts after same h w s)
@@ -523,8 +523,8 @@ pub record GathersGroups {X : Type 0} (One : List X → Form) (A : ℕ → Form)
 
 pub groups_push : {X Y : Type 0} {One : List X → Form} {A : ℕ → Form} {ends ends' : TokenKind → Bool} {left : ℕ} {y : Y}
     (ys : List X) {before items items' : List X} {start rest new : Tokens} →
-    GathersGroups One A ends' before items start rest → ends' (kind_at rest) ≡ false → Spans (One ys) rest new
-    → Finds A ends left (Ok y) rest new → Follows (λ n. many (A n)) ends ends' → items' ≡ items ++ ys
+    GathersGroups One A ends' before items start rest → ends' (first_token_kind rest) ≡ false → Spans (One ys) rest new
+    → FindsRefusal A ends left (Ok y) rest new → Follows (λ n. many (A n)) ends ends' → items' ≡ items ++ ys
     → GathersGroups One A ends' before items' start new
 groups_push {One = One} ys {before = before} {start = start} {rest = rest} g open_here s f follows e =
     let p : Spans (each One (g.taken.form.parts ++ ys ∷ [])) start _ =

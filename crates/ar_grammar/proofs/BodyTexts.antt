@@ -18,7 +18,7 @@ use Rattle.ar_grammar.specs.Texts as text
 use Rattle.expression_grammar.specs.Texts.{maybe, expr_tokens}
 use Rattle.ar_grammar.specs.Texts.{instr_tokens, bracketed_tokens, is_type, declared_rest, unit_tokens, keyed_tokens, body_made_of, body_tokens}
 use Rattle.ar_grammar.specs.Parts.{alias_tokens, value_tokens, single_tokens, section_of, unit_of, keyed_of, member_tokens}
-use Rattle.expression_grammar.specs.Results.{Begins, is_word, is_name}
+use Rattle.expression_grammar.specs.Results.{BeginsForm, is_word, is_name}
 use Rattle.ar_grammar.specs.Results.{begins_keyed, begins_member, begins_section, begins_body}
 use Rattle.expression_grammar.proofs.ExpressionForms.{word_from}
 use Rattle.expression_grammar.proofs.Standing.{Turns, turns_token, turns_then, begins_token, begins_one, begins_here, begins_nothing, begins_no_more, begins_then, begins_after, begins_map}
@@ -177,34 +177,34 @@ moves_laters n m l ms = moves_groups (moves_later n m l (ReadsBody n) (body_toke
 
 -- Texts to come
 
-pub some_body : (m : ℕ) → Begins (body_tokens deep m) []
+pub some_body : (m : ℕ) → BeginsForm (body_tokens deep m) []
 some_body zero = begins_map begins_nothing (λ next ts h. inl h)
 some_body (suc m) = begins_then begins_no_more begins_maybe
 
-pub some_unit : (m : ℕ) → Begins (unit_of m) []
+pub some_unit : (m : ℕ) → BeginsForm (unit_of m) []
 some_unit m = begins_then (begins_token Name) (begins_then (some_body m) (begins_token (Reserved END)))
 
-pub some_as : Begins (between (Reserved AS) (Sign SEMICOLON) (token Name)) []
+pub some_as : BeginsForm (between (Reserved AS) (Sign SEMICOLON) (token Name)) []
 some_as = begins_then (begins_token (Reserved AS)) (begins_then (begins_token Name) (begins_token (Sign SEMICOLON)))
 
-pub some_alias : Begins alias_tokens []
+pub some_alias : BeginsForm alias_tokens []
 some_alias = begins_then some_path some_as
 
-pub some_equals : (m : ℕ) → Begins (between (Sign EQUALS) (Sign SEMICOLON) (expr_tokens deep m)) []
+pub some_equals : (m : ℕ) → BeginsForm (between (Sign EQUALS) (Sign SEMICOLON) (expr_tokens deep m)) []
 some_equals m = begins_then (begins_token (Sign EQUALS)) (begins_then (some_expr m) (begins_token (Sign SEMICOLON)))
 
-pub some_value : (m : ℕ) → Begins (value_tokens m) []
+pub some_value : (m : ℕ) → BeginsForm (value_tokens m) []
 some_value m = begins_then (begins_one {test = is_type} Name refl) (begins_then (begins_token Name) (some_equals m))
 
-pub some_keyed : (m : ℕ) → Begins (keyed_of m) []
+pub some_keyed : (m : ℕ) → BeginsForm (keyed_of m) []
 some_keyed m = begins_map (begins_then (begins_token (Reserved EXTENDS))
     (begins_then (begins_token Name) (begins_token (Sign SEMICOLON)))) (λ next ts h. text.extends h)
 
-pub some_single : (m : ℕ) → Begins (single_tokens m) []
+pub some_single : (m : ℕ) → BeginsForm (single_tokens m) []
 some_single m = begins_map (begins_then (begins_token (Reserved EXTENDS))
     (begins_then (begins_token Name) (begins_token (Sign SEMICOLON)))) (λ next ts h. inl h)
 
-pub some_member : (m : ℕ) → Begins (member_tokens m) []
+pub some_member : (m : ℕ) → BeginsForm (member_tokens m) []
 some_member m = begins_map (some_keyed m) (λ next ts h. inl h)
 
 -- Texts of which the first token was passed
@@ -222,7 +222,7 @@ nine false false false false false false true h i p = inr (inr (inr (inr (inr (i
 nine false false false false false false false true i p = inr (inr (inr (inr (inr (inr (inr (inl refl)))))))
 nine false false false false false false false false i p = inr (inr (inr (inr (inr (inr (inr (inr p)))))))
 
-keyed_at : (m : ℕ) (t : Lexeme) → begins_keyed t.kind ≡ true → Begins (keyed_of m) (t ∷ [])
+keyed_at : (m : ℕ) (t : Lexeme) → begins_keyed t.kind ≡ true → BeginsForm (keyed_of m) (t ∷ [])
 keyed_at m t h = by_kind t.kind refl h
   where
     by_word : (w : ℕ) → t.kind ≡ Reserved w →
@@ -230,7 +230,7 @@ keyed_at m t h = by_kind t.kind refl h
         ⊎ (((w == BLOCK) ≡ true) ⊎ (((w == CLONES) ≡ true)
         ⊎ (((w == EMBEDS) ≡ true) ⊎ (((w == PARAMETER) ≡ true)
         ⊎ (((w == EVENT) ≡ true) ⊎ (((w == OBSERVER) ≡ true) ⊎ ((w == HIDE) ≡ true))))))))
-        → Begins (keyed_of m) (t ∷ [])
+        → BeginsForm (keyed_of m) (t ∷ [])
     by_word w e (inl q) = begins_map (begins_then
         (begins_here t (Reserved EXTENDS) (e ∙ ap Reserved (eqb-true w EXTENDS q)))
         (begins_then (begins_token Name) (begins_token (Sign SEMICOLON)))) (λ next ts h. text.extends h)
@@ -260,7 +260,7 @@ keyed_at m t h = by_kind t.kind refl h
         begins_map (begins_then (begins_here t (Reserved HIDE) (e ∙ ap Reserved (eqb-true w HIDE q)))
         (begins_then (begins_then some_path begins_no_more) (begins_token (Sign SEMICOLON)))) (λ next ts h. text.hide h)
 
-    by_kind : (k : TokenKind) → t.kind ≡ k → begins_keyed k ≡ true → Begins (keyed_of m) (t ∷ [])
+    by_kind : (k : TokenKind) → t.kind ≡ k → begins_keyed k ≡ true → BeginsForm (keyed_of m) (t ∷ [])
     by_kind (Reserved w) e h = by_word w e
         (nine (w == EXTENDS) (w == BOOLEAN) (w == BLOCK) (w == CLONES) (w == EMBEDS) (w == PARAMETER) (w == EVENT)
         (w == OBSERVER) (w == HIDE) h)
@@ -270,10 +270,10 @@ keyed_at m t h = by_kind t.kind refl h
     by_kind (Sign s) e h = absurd (cc)
     by_kind End e h = absurd (cc)
 
-section_at : (m : ℕ) (t : Lexeme) → begins_section t.kind ≡ true → Begins (section_of m) (t ∷ [])
+section_at : (m : ℕ) (t : Lexeme) → begins_section t.kind ≡ true → BeginsForm (section_of m) (t ∷ [])
 section_at m t h = by_either (or_cases (is_word TRANSITION t.kind) (is_word ASSERTION t.kind) h)
   where
-    by_either : (is_word TRANSITION t.kind ≡ true) ⊎ (is_word ASSERTION t.kind ≡ true) → Begins (section_of m) (t ∷ [])
+    by_either : (is_word TRANSITION t.kind ≡ true) ⊎ (is_word ASSERTION t.kind ≡ true) → BeginsForm (section_of m) (t ∷ [])
     by_either (inl q) = begins_map (begins_then (begins_here t (Reserved TRANSITION) (word_from TRANSITION t.kind q))
         begins_no_more) (λ next ts h. inl h)
     by_either (inr q) = begins_map (begins_then (begins_here t (Reserved ASSERTION) (word_from ASSERTION t.kind q))
@@ -287,19 +287,19 @@ name_from (Sign s) h = absurd (cc)
 name_from (Reserved w) h = absurd (cc)
 name_from End h = absurd (cc)
 
-member_at : (m : ℕ) (t : Lexeme) → begins_member t.kind ≡ true → Begins (member_tokens m) (t ∷ [])
+member_at : (m : ℕ) (t : Lexeme) → begins_member t.kind ≡ true → BeginsForm (member_tokens m) (t ∷ [])
 member_at m t h = by_either (or_cases (is_name t.kind) (begins_keyed t.kind) h)
   where
-    by_either : (is_name t.kind ≡ true) ⊎ (begins_keyed t.kind ≡ true) → Begins (member_tokens m) (t ∷ [])
+    by_either : (is_name t.kind ≡ true) ⊎ (begins_keyed t.kind ≡ true) → BeginsForm (member_tokens m) (t ∷ [])
     by_either (inl q) = begins_map (begins_then (begins_here t Name (name_from t.kind q)) (some_declared_rest m))
         (λ next ts h. inr h)
     by_either (inr q) = begins_map (keyed_at m t q) (λ next ts h. inl h)
 
-pub body_at : (m : ℕ) (t : Lexeme) → begins_body t.kind ≡ true → Begins (body_tokens deep (suc m)) (t ∷ [])
+pub body_at : (m : ℕ) (t : Lexeme) → begins_body t.kind ≡ true → BeginsForm (body_tokens deep (suc m)) (t ∷ [])
 body_at m t h = by_either (or_cases (begins_section t.kind) (begins_member t.kind) h)
   where
     by_either : (begins_section t.kind ≡ true) ⊎ (begins_member t.kind ≡ true)
-        → Begins (body_tokens deep (suc m)) (t ∷ [])
+        → BeginsForm (body_tokens deep (suc m)) (t ∷ [])
     by_either (inl q) = begins_after (λ next. ([], refl))
         (begins_map (begins_then (section_at m t q) begins_no_more) (λ next ts h. inr h))
     by_either (inr q) = begins_then (begins_some (member_at m t q)) begins_maybe

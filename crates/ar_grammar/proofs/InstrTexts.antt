@@ -19,7 +19,7 @@ use Rattle.ar_grammar.specs.Instructions.{ReadsElse, ReadsSimpleOf, assign, tie,
 use Rattle.ar_grammar.specs.Instructions as tree
 use Rattle.expression_grammar.specs.Texts.{path_tokens, expr_tokens}
 use Rattle.ar_grammar.specs.Texts.{simple_tokens, else_tokens, conditional_tokens, group_tokens, instr_of, simple, group, conditional, instr_tokens}
-use Rattle.expression_grammar.specs.Results.{kind_at, Spans, Begins, Refuses, is_sign, is_word, anything, ends_path, begins_path}
+use Rattle.expression_grammar.specs.Results.{first_token_kind, Spans, BeginsForm, Refuses, is_sign, is_word, anything, ends_path, begins_path}
 use Rattle.ar_grammar.specs.Results.{begins_instr}
 use Rattle.expression_grammar.proofs.Finding.{Follows, inside, token_kind, then_kind, apart, fails, each_push}
 use Rattle.expression_grammar.proofs.Standing.{Turns, turns_token, turns_then, tells_most, refuses_map, begins_token, begins_here, begins_no_more, begins_then, begins_map, begins_after, turns_each}
@@ -145,30 +145,30 @@ else_none n next ts (inr h) k = absurd (k (then_kind h))
 
 -- Texts to come
 
-pub some_path : Begins path_tokens []
+pub some_path : BeginsForm path_tokens []
 some_path = begins_after {A = ReadsSome ReadsStart} (λ next. (Here, refl))
     (begins_then (begins_token Name) begins_no_more)
 
-pub some_assign : (m : ℕ) → Begins (simple_rest m) []
+pub some_assign : (m : ℕ) → BeginsForm (simple_rest m) []
 some_assign m = begins_map (begins_then (begins_token (Sign ASSIGN))
     (begins_then (some_expr m) (begins_token (Sign SEMICOLON)))) (λ next ts h. inl h)
 
-pub some_instr : (m : ℕ) → Begins (instr_tokens deep m) []
+pub some_instr : (m : ℕ) → BeginsForm (instr_tokens deep m) []
 some_instr zero = begins_token no_kind
 some_instr (suc m) = begins_map (begins_then (begins_token (Reserved SKIP)) (begins_token (Sign SEMICOLON)))
     (λ next ts h. simple (inl h))
 
-pub some_group_end : {A : Form} → Begins (many A ▸ token (Sign CLOSE_BRACE)) []
+pub some_group_end : {A : Form} → BeginsForm (many A ▸ token (Sign CLOSE_BRACE)) []
 some_group_end = begins_then begins_no_more (begins_token (Sign CLOSE_BRACE))
 
-pub instr_at : (m : ℕ) (t : Lexeme) → begins_instr t.kind ≡ true → Begins (instr_tokens deep (suc m)) (t ∷ [])
+pub instr_at : (m : ℕ) (t : Lexeme) → begins_instr t.kind ≡ true → BeginsForm (instr_tokens deep (suc m)) (t ∷ [])
 instr_at m t h = by_kind t.kind refl h
   where
-    by_path : begins_path t.kind ≡ true → Begins (instr_tokens deep (suc m)) (t ∷ [])
+    by_path : begins_path t.kind ≡ true → BeginsForm (instr_tokens deep (suc m)) (t ∷ [])
     by_path p = begins_map (begins_then (path_at t p) (some_assign m)) (λ next ts h. simple (inr h))
 
     by_word : (w : ℕ) → t.kind ≡ Reserved w → (((w == OWNER) || (w == MAIN) || (w == SKIP)) ≡ true) ⊎ ((w == IF) ≡ true)
-        → Begins (instr_tokens deep (suc m)) (t ∷ [])
+        → BeginsForm (instr_tokens deep (suc m)) (t ∷ [])
     by_word w e (inr q) = begins_map (begins_then
         (begins_then (begins_here t (Reserved IF) (e ∙ ap Reserved (eqb-true w IF q)))
         (begins_then (some_expr m) (begins_token (Reserved THEN))))
@@ -177,13 +177,13 @@ instr_at m t h = by_kind t.kind refl h
     by_word w e (inl q) = by_simple (or_cases ((w == OWNER) || (w == MAIN)) (w == SKIP) q)
       where
         by_simple : (((w == OWNER) || (w == MAIN)) ≡ true) ⊎ ((w == SKIP) ≡ true)
-            → Begins (instr_tokens deep (suc m)) (t ∷ [])
+            → BeginsForm (instr_tokens deep (suc m)) (t ∷ [])
         by_simple (inl p) = by_path (ap begins_path e ∙ p)
         by_simple (inr p) = begins_map (begins_then
             (begins_here t (Reserved SKIP) (e ∙ ap Reserved (eqb-true w SKIP p))) (begins_token (Sign SEMICOLON)))
             (λ next ts h. simple (inl h))
 
-    by_kind : (k : TokenKind) → t.kind ≡ k → begins_instr k ≡ true → Begins (instr_tokens deep (suc m)) (t ∷ [])
+    by_kind : (k : TokenKind) → t.kind ≡ k → begins_instr k ≡ true → BeginsForm (instr_tokens deep (suc m)) (t ∷ [])
     by_kind Name e h = by_path (ap begins_path e)
     by_kind (Sign s) e h = begins_map (begins_then
         (begins_here t (Sign OPEN_BRACE) (e ∙ ap Sign (eqb-true s OPEN_BRACE h))) some_group_end) (λ next ts h. group h)
@@ -282,18 +282,18 @@ moves_instr n m l i = λ next next' ts y h. instr_case n m l i next next' ts y h
 pub record Leads (P : ℕ → Form) (left : ℕ) (old mid : Tokens) : Type 0 where
   pub front : Tokens
   pub split : old ≡ front ++ mid
-  pub form : (m : ℕ) → left ≤ m → (next : TokenKind) → May (kind_at mid) next → P m next front
+  pub form : (m : ℕ) → left ≤ m → (next : TokenKind) → May (first_token_kind mid) next → P m next front
 
 pub leads : {A : Form} {P : ℕ → Form} {left : ℕ} {old mid : Tokens} → Spans A old mid
     → ((m : ℕ) → left ≤ m → Moves A (P m)) → Leads P left old mid
 leads {mid = mid} s f = record {
   front = s.front;
   split = s.split;
-  form = λ m l next y. f m l (kind_at mid) next s.front y s.form;
+  form = λ m l next y. f m l (first_token_kind mid) next s.front y s.form;
 }
 
 pub refuses_leads : {P Q : ℕ → Form} {left : ℕ} {e : Refusal} {old mid new : Tokens} → Leads P left old mid
-    → ((m : ℕ) (next : TokenKind) (ts : Tokens) → Q m next ts → May (kind_at mid) (kind_or next ts))
+    → ((m : ℕ) (next : TokenKind) (ts : Tokens) → Q m next ts → May (first_token_kind mid) (kind_or next ts))
     → Refuses Q left e mid new → Refuses (λ m. P m ▸ Q m) left e old new
 refuses_leads {new = new} p y r n = let s = r n in record {
   front = p.front ++ s.front;
@@ -315,7 +315,7 @@ refuses_leads {new = new} p y r n = let s = r n in record {
 
 pub refuses_again : {A : ℕ → Form} {left : ℕ} {e : Refusal} {start rest new : Tokens}
     → Leads (λ m. many (A m)) left start rest
-    → ((m : ℕ) (next : TokenKind) (ts : Tokens) → A m next ts → May (kind_at rest) (kind_or next ts))
+    → ((m : ℕ) (next : TokenKind) (ts : Tokens) → A m next ts → May (first_token_kind rest) (kind_or next ts))
     → Refuses A left e rest new → Refuses (λ m. many (A m)) left e start new
 refuses_again {A} p y r = refuses_map (refuses_leads p y r)
     (λ m next ts h. (
@@ -328,7 +328,7 @@ refuses_again {A} p y r = refuses_map (refuses_leads p y r)
 -- a turn of a loop is refused, so that the form stands there at least once
 pub refuses_some_again : {A : ℕ → Form} {left : ℕ} {e : Refusal} {start rest new : Tokens}
     → Leads (λ m. many (A m)) left start rest
-    → ((m : ℕ) (next : TokenKind) (ts : Tokens) → A m next ts → May (kind_at rest) (kind_or next ts))
+    → ((m : ℕ) (next : TokenKind) (ts : Tokens) → A m next ts → May (first_token_kind rest) (kind_or next ts))
     → Refuses A left e rest new → Refuses (λ m. A m ▸ many (A m)) left e start new
 refuses_some_again {A} p y r = refuses_map (refuses_leads p y r)
     (λ m next ts h. each_some h.first.0 next ts

@@ -22,7 +22,7 @@ use Rattle.expression_grammar.specs.Texts.{maybe, names_tokens}
 use Rattle.ar_grammar.specs.Texts.{whole_tokens, bound_tokens, domain_tokens, item_tokens, model_tokens}
 use Rattle.ar_grammar.specs.Parts.{unit_of, domain_body_tokens}
 use Rattle.ar_grammar.specs.Items.{ReadsWhole, ReadsBound, whole, negated, ReadsDomainBody, ReadsDomain, ReadsItem, ReadsItems}
-use Rattle.expression_grammar.specs.Results.{kind_at, Spans, Plain, Arrives, Finds, Begins, Refuses, Eats, is_sign, is_word}
+use Rattle.expression_grammar.specs.Results.{first_token_kind, Spans, Plain, Arrives, FindsRefusal, BeginsForm, Refuses, Eats, is_sign, is_word}
 use Rattle.ar_grammar.specs.Results.{AreUnsigned, Gets, IsRefusedAs, begins_item, ends_item, is_end}
 use Rattle.expression_grammar.proofs.Finding.{Follows, apart, fails, token_kind, then_kind, follows_many, spans_then, spans_map, spans_token, spans_at, finds_given, finds_token, finds_nothing, finds_at, eats_kind}
 use Rattle.ar_grammar.proofs.Finding.{spans_nothing}
@@ -77,7 +77,7 @@ turns_bound z = λ next next' ts h. by_case next next' ts h
     by_case next next' ts (whole h) = inl (turns_whole z next next' ts h)
     by_case next next' ts (negated n e h) = inr (turns_then turns_token (turns_whole n) next next' ts h)
 
-pub some_whole : Begins whole_tokens []
+pub some_whole : BeginsForm whole_tokens []
 some_whole = record {
   more = some_token (Whole (pos 0)) ∷ [];
   form = λ next. record {
@@ -87,7 +87,7 @@ some_whole = record {
   };
 }
 
-pub some_bound : Begins bound_tokens []
+pub some_bound : BeginsForm bound_tokens []
 some_bound = begins_map some_whole (λ next ts h. inl h)
 
 -- Domains
@@ -116,7 +116,7 @@ turns_domain_body (domain.Range low high) =
     λ next next' ts h. inr (turns_then (turns_then turns_token (turns_then (turns_bound low) turns_token))
     (turns_then (turns_bound high) turns_token) next next' ts h)
 
-pub some_domain_body : Begins domain_body_tokens []
+pub some_domain_body : BeginsForm domain_body_tokens []
 some_domain_body = begins_map (begins_then (begins_token (Sign OPEN_BRACE))
     (begins_then (begins_then (begins_token Name) begins_no_more) (begins_token (Sign CLOSE_BRACE))))
     (λ next ts h. inl h)
@@ -149,12 +149,12 @@ semicolon_not next k ts (inl z) e q = z
 semicolon_not next k ts (inr h) e q = absurd (q (sym e ∙ token_kind h))
 
 pub semicolon_only : (left : ℕ) (b : Bool) {old new : Tokens} → OnTrue b (Eats (Sign SEMICOLON) old new)
-    → OnFalse b (new ≡ old) → OnFalse b (kind_at old ≢ Sign SEMICOLON)
-    → Finds {A = Unit {0}} (λ n. maybe (token (Sign SEMICOLON))) ends_item left (Ok tt) old new
+    → OnFalse b (new ≡ old) → OnFalse b (first_token_kind old ≢ Sign SEMICOLON)
+    → FindsRefusal {A = Unit {0}} (λ n. maybe (token (Sign SEMICOLON))) ends_item left (Ok tt) old new
 semicolon_only left true {old = old} e f other =
-    finds_given (finds_token e) (λ n next ts h s k. (semicolon_there next (kind_at old) ts h s k (eats_kind e), refl))
+    finds_given (finds_token e) (λ n next ts h s k. (semicolon_there next (first_token_kind old) ts h s k (eats_kind e), refl))
 semicolon_only left false {old = old} e f other =
-    finds_at (finds_given (finds_nothing tt) (λ n next ts h s k. (semicolon_not next (kind_at old) ts h k other, s))) f
+    finds_at (finds_given (finds_nothing tt) (λ n next ts h s k. (semicolon_not next (first_token_kind old) ts h k other, s))) f
 
 -- Items
 
@@ -238,7 +238,7 @@ gets_fault A B left n x Depth new h a = gets_as A left n x Depth h a
 gets_fault A B left n x Memory new h a = gets_as A left n x Memory h tt
 
 pub model_fails : {A B : Type 0} {left : ℕ} (r : Result A Refusal) (e : Refusal) {old new : Tokens}
-    → IsErrAnd r (λ x. x ≡ e) → Plain old → Finds {A = B} (model_tokens deep) is_end left (Err e) old new → (n : ℕ)
+    → IsErrAnd r (λ x. x ≡ e) → Plain old → FindsRefusal {A = B} (model_tokens deep) is_end left (Err e) old new → (n : ℕ)
     → ReadsSome (ReadsItems n) End old → Gets left n r
 model_fails (Ok x) e k p f n h = elim k [ ]
 model_fails {A} {B} {left} (Err x) e {old} {new} k p f n h =
@@ -246,7 +246,7 @@ model_fails {A} {B} {left} (Err x) e {old} {new} k p f n h =
     (sym f.passed ∙ sym (append-nil old)) refl)
 
 pub model_over : {A : Type 0} {left : ℕ} {y : A} {old new : Tokens} → Plain old
-    → Finds (model_tokens deep) is_end left (Ok y) old new → (new ≡ [] → ⊥) → (n : ℕ) → ReadsSome (ReadsItems n) End old
+    → FindsRefusal (model_tokens deep) is_end left (Ok y) old new → (new ≡ [] → ⊥) → (n : ℕ) → ReadsSome (ReadsItems n) End old
     → ⊥
 model_over {old = old} {new = new} p f more n h =
     more (f.only p n new old [] refl (whole_items n old h) (sym f.passed ∙ sym (append-nil old)) refl)
@@ -254,14 +254,14 @@ model_over {old = old} {new = new} p f more n h =
 pub model_found : (A : Form) {old new : Tokens} → Spans A old new → new ≡ [] → A End old
 model_found A {old} {new} s e = subst (λ (ts : Tokens). A End ts)
     (sym (s.split ∙ ap (λ (t : Tokens). s.front ++ t) e ∙ append-nil s.front))
-    (subst (λ (k : TokenKind). A k s.front) (ap kind_at e) s.form)
+    (subst (λ (k : TokenKind). A k s.front) (ap first_token_kind e) s.form)
 
 refused_as : (left : ℕ) (x e : Refusal) (old new : Tokens) → x ≡ e → IsRefusedAs left e old new
     → IsRefusedAs left x old new
 refused_as left x e old new h a = subst (λ (f : Refusal). IsRefusedAs left f old new) (sym h) a
 
 pub model_refuses : {A B : Type 0} {left : ℕ} (r : Result A Refusal) (e : Refusal) {old new : Tokens}
-    → IsErrAnd r (λ x. x ≡ e) → Plain old → Finds {A = B} (model_tokens deep) is_end left (Err e) old new
+    → IsErrAnd r (λ x. x ≡ e) → Plain old → FindsRefusal {A = B} (model_tokens deep) is_end left (Err e) old new
     → Refuses (model_tokens deep) left e old new → IfErr r (λ x. IsRefusedAs left x old new)
 model_refuses (Ok x) e k p f s = tt
 model_refuses {left = left} (Err x) Syntax {old} {new} k p f s = let t = s (λ q. absurd (cc)) in refused_as left x Syntax old new k (t.front, t.passed, syntax_there p f t)
@@ -269,13 +269,13 @@ model_refuses {left = left} (Err x) Depth {old} {new} k p f s = let t = s (λ q.
 model_refuses {left = left} (Err x) Memory {old} {new} k p f s = refused_as left x Memory old new k tt
 
 pub model_behind : {A : Type 0} {left : ℕ} {y : A} {old new : Tokens} (xs : List Item) → Plain old
-    → Finds (model_tokens deep) is_end left (Ok y) old new → Spans (ReadsItems left xs) old new → (new ≡ [] → ⊥)
+    → FindsRefusal (model_tokens deep) is_end left (Ok y) old new → Spans (ReadsItems left xs) old new → (new ≡ [] → ⊥)
     → IsRefusedAs left Syntax old new
 model_behind {left = left} {new = new} xs p f s some = (
   s.front,
   s.split,
   syntax_behind s.front s.split p f
-      (turns_items left left (omega arith) xs (kind_at new) End s.front s.form) some,
+      (turns_items left left (omega arith) xs (first_token_kind new) End s.front s.form) some,
 )
 
 -- Sizes
@@ -292,7 +292,7 @@ shorter (t ∷ front) old new e some =
     omega (arith, n)
 
 pub item_shorter : (n : ℕ) (x : Item) {old new : Tokens} → Spans (ReadsItem n x) old new → length new < length old
-item_shorter n x {old} {new} s = shorter s.front old new s.split (item_some n x (kind_at new) s.front s.form)
+item_shorter n x {old} {new} s = shorter s.front old new s.split (item_some n x (first_token_kind new) s.front s.form)
 
 -- Numbers
 

@@ -22,7 +22,7 @@ use Rattle.expression_grammar.specs.Expressions.{Node, ReadsExpr}
 use Rattle.ar_grammar.specs.Members.{ReadsType, ReadsTypeForm, ReadsWord, ReadsSetting, ReadsSettings}
 use Rattle.expression_grammar.specs.Texts.{one_of, list_of, names_tokens, expr_tokens}
 use Rattle.ar_grammar.specs.Texts.{is_type, is_target_word, setting_tokens, settings_tokens}
-use Rattle.expression_grammar.specs.Results.{kind_at, Spans, Begins, anything, ends_expr, ends_list, is_sign}
+use Rattle.expression_grammar.specs.Results.{first_token_kind, Spans, BeginsForm, anything, ends_expr, ends_list, is_sign}
 use Rattle.ar_grammar.specs.Results.{ends_names, ends_attribute}
 use Rattle.expression_grammar.proofs.Finding.{Follows, kind_join, fails, token_kind, then_kind, follows_many, spans_then}
 use Rattle.expression_grammar.proofs.PathForms.{stands_there}
@@ -42,7 +42,7 @@ use Rattle.ar_grammar.specs.Instructions.{ReadsInstr}
 use Rattle.ar_grammar.specs.Members.{ReadsEvent, ReadsHidden, ReadsPart, ReadsTransition, sync, local}
 use Rattle.expression_grammar.specs.Texts.{path_tokens}
 use Rattle.ar_grammar.specs.Texts.{is_part, declared_rest}
-use Rattle.ar_grammar.specs.Parts.{event_tokens, part_tokens, parts_tokens, guarded_tokens, transition_of}
+use Rattle.ar_grammar.specs.Parts.{event_tokens, part_tokens, parts_tokens, guarded_tokens, transition_form}
 use Rattle.expression_grammar.specs.Results.{ends_path, begins_expr}
 use Rattle.ar_grammar.specs.Results.{ends_semicolon, begins_part}
 use Rattle.expression_grammar.proofs.Finding.{spans_map}
@@ -61,7 +61,7 @@ stand_made A end at {old} {new} e s some = record {
   split = s.split;
   form = record {
     there = subst (λ (p : Place). StandsAt p s.front) (sym e)
-        (stands_there end s.front old new s.split (some (kind_at new) s.front s.form));
+        (stands_there end s.front old new s.split (some (first_token_kind new) s.front s.form));
     form = s.form;
   };
 }
@@ -222,13 +222,13 @@ turns_settings n m l (s ∷ more) = λ next next' ts h. inr
 pub turns_names : (xs : List (NameId × Place)) → Turns (ReadsNames xs) names_tokens
 turns_names xs = turns_list ReadsPlacedName (token Name) (Sign COMMA) turns_placed xs
 
-pub some_setting : (m : ℕ) → Begins (setting_tokens (expr_tokens deep m)) []
+pub some_setting : (m : ℕ) → BeginsForm (setting_tokens (expr_tokens deep m)) []
 some_setting m = begins_then (begins_then (begins_one {test = is_target_word} Name refl) begins_no_more)
     (begins_then (begins_token (Sign EQUALS)) (some_expr m))
 
 -- Declarations before any token
 
-pub some_declared_rest : (m : ℕ) → Begins (declared_rest (expr_tokens deep m)) []
+pub some_declared_rest : (m : ℕ) → BeginsForm (declared_rest (expr_tokens deep m)) []
 some_declared_rest m = begins_then (begins_then (begins_token Name) begins_no_more)
     (begins_then (begins_map begins_nothing (λ next ts h. inl h)) (begins_token (Sign SEMICOLON)))
 
@@ -254,7 +254,7 @@ pub turns_hidden : (e : Member) → Turns (ReadsHidden e) path_tokens
 turns_hidden e = λ next next' ts h. turns_path h.event next next' ts h.reads
 
 -- what stands behind the first of a list that closes
-pub begins_list_end : {A : Form} {separator closes : TokenKind} → Begins (many (token separator ▸ A) ▸ token closes) []
+pub begins_list_end : {A : Form} {separator closes : TokenKind} → BeginsForm (many (token separator ▸ A) ▸ token closes) []
 begins_list_end {closes = closes} = begins_then begins_no_more (begins_token closes)
 
 -- Parts of a synchronisation
@@ -321,7 +321,7 @@ transition_local n next ts (inl h) k =
     let q : true ≡ false = sym (begins_part_from (kind_or next ts) (ap is_part (first_of h ∙ first_of h.first ∙ first_of h.first.first) ∙ one_kind h.first.first.first)) ∙ k in absurd (cc)
 transition_local n next ts (inr h) k = h
 
-pub transition_kind : (n : ℕ) (next : TokenKind) (ts : Tokens) → transition_of n next ts → kind_or next ts ≡ Name
+pub transition_kind : (n : ℕ) (next : TokenKind) (ts : Tokens) → transition_form n next ts → kind_or next ts ≡ Name
 transition_kind n next ts h = then_kind h
 
 pub local_made : (n : ℕ) (name : NameId) (at : Place) (guard : RawExpr) (action : Instr) {old a b new : Tokens}
@@ -334,11 +334,11 @@ local_made n name at guard action s t g =
     (then_map h (λ next ts j. j) (λ next ts j. then_unassoc
     (then_map j (λ next ts k. k) (λ next ts k. then_unassoc k)))))
 
-pub moves_transition : (n m : ℕ) → n ≤ m → (t : Member) → Moves (ReadsTransition n t) (transition_of m)
+pub moves_transition : (n m : ℕ) → n ≤ m → (t : Member) → Moves (ReadsTransition n t) (transition_form m)
 moves_transition n m l t = λ next next' ts y h. by_case next next' ts y h
   where
     by_case : (next next' : TokenKind) (ts : Tokens) → May next next' → ReadsTransition n t next ts
-        → transition_of m next' ts
+        → transition_form m next' ts
     by_case next next' ts y (sync name at parts e h) =
         turns_then (turns_placed (name, at))
         (λ next next' ts j. then_map (turns_then turns_token
@@ -352,8 +352,8 @@ moves_transition n m l t = λ next next' ts y h. by_case next next' ts y h
         (moves_instr n m l action) next next' ts y j)) (λ next ts i. i) (λ next ts i. inr (then_assoc i))) next
         next' ts y h
 
-pub some_guarded : (m : ℕ) → Begins (guarded_tokens m) []
+pub some_guarded : (m : ℕ) → BeginsForm (guarded_tokens m) []
 some_guarded m = begins_then (some_expr m) (begins_then (begins_token (Sign ARROW)) (some_instr m))
 
-pub some_transition_rest : (m : ℕ) → Begins (transition_rest m) []
+pub some_transition_rest : (m : ℕ) → BeginsForm (transition_rest m) []
 some_transition_rest m = begins_map (some_guarded m) (λ next ts h. inr h)

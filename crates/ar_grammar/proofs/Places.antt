@@ -7,7 +7,7 @@ use Rattle.expression_grammar.specs.declared.lexeme.Refusal.{Refusal}
 use Rattle.expression_grammar.specs.declared.lexeme.Refusal.TheVariants.{Syntax, Depth}
 use Rattle.expression_grammar.specs.Words.{Tokens, deep, never}
 use Rattle.ar_grammar.specs.Texts.{model_tokens, Viable, FitsNesting, Ends, IsSyntaxAt, IsDepthAt}
-use Rattle.expression_grammar.specs.Results.{kind_at, Plain, Arrives, Finds, Stands, before, through}
+use Rattle.expression_grammar.specs.Results.{first_token_kind, Plain, Arrives, FindsRefusal, StandsWhereStopped, before, through}
 use Rattle.ar_grammar.specs.Results.{is_end}
 use Rattle.ar_grammar.proofs.Filling.{up, Filled, fills_model, not_cut, to_fill, viable_of, filled_front}
 
@@ -15,7 +15,7 @@ plain_front : (front rest : Tokens) → Plain (front ++ rest) → Plain front
 plain_front [] rest p = tt
 plain_front (t ∷ front) rest p = (p.0, plain_front front rest p.1)
 
-pub fits_before : {n : ℕ} {e : Refusal} {old new : Tokens} → (s : Stands (model_tokens deep) n e old new)
+pub fits_before : {n : ℕ} {e : Refusal} {old new : Tokens} → (s : StandsWhereStopped (model_tokens deep) n e old new)
     → FitsNesting n s.front
 fits_before {n} s = let b = s.tells n [] (before refl refl) in
     record {
@@ -34,18 +34,18 @@ as_deep m front more q h =
 
 -- What a call on a whole text found, and the front that it passed
 module _ {A : Type 0} {n : ℕ} {r : Result A Refusal} {old new : Tokens} (front : Tokens) (passed : old ≡ front ++ new)
-    (p : Plain old) (f : Finds (model_tokens deep) is_end n r old new) where
+    (p : Plain old) (f : FindsRefusal (model_tokens deep) is_end n r old new) where
   same_front : f.front ≡ front
   same_front = append_cancel_right f.front front new (sym f.passed ∙ passed)
 
   -- where the call would end
   none_on : (m : ℕ) (t : Lexeme) (rest more : Tokens) → new ≡ t ∷ rest → model_tokens deep m End (front ++ t ∷ more)
       → Arrives n m r (t ∷ more) []
-  none_on m t rest more w h = f.only p m (t ∷ more) (front ++ t ∷ more) [] (sym (ap kind_at w)) h
+  none_on m t rest more w h = f.only p m (t ∷ more) (front ++ t ∷ more) [] (sym (ap first_token_kind w)) h
       (ap (λ (x : Tokens). x ++ t ∷ more) same_front ∙ sym (append-nil (front ++ t ∷ more))) refl
 
   none_end : (m : ℕ) → new ≡ [] → model_tokens deep m End front → Arrives n m r [] []
-  none_end m w h = f.only p m [] front [] (sym (ap kind_at w)) h (ap (λ (x : Tokens). x ++ []) same_front) refl
+  none_end m w h = f.only p m [] front [] (sym (ap first_token_kind w)) h (ap (λ (x : Tokens). x ++ []) same_front) refl
 
   whole : Plain (front ++ new)
   whole = subst Plain passed p
@@ -73,8 +73,8 @@ module _ {A : Type 0} {n : ℕ} {r : Result A Refusal} {old new : Tokens} (front
 
 -- Where a call on a whole text gives Syntax, no text goes on with the token there, and none before is too deep.
 pub syntax_there : {A : Type 0} {n : ℕ} {old new : Tokens} (p : Plain old)
-    (f : Finds {A = A} (model_tokens deep) is_end n (Err Syntax) old new)
-    (s : Stands (model_tokens deep) n Syntax old new)
+    (f : FindsRefusal {A = A} (model_tokens deep) is_end n (Err Syntax) old new)
+    (s : StandsWhereStopped (model_tokens deep) n Syntax old new)
     → IsSyntaxAt n s.front new
 syntax_there {new = new} p f s = record { fits = fits_before s; ends = by_next new refl }
   where
@@ -84,7 +84,7 @@ syntax_there {new = new} p f s = record { fits = fits_before s; ends = by_next n
 
 -- Where it took a text and more tokens are left, no text goes on with the next of them.
 pub syntax_behind : {A : Type 0} {x : A} {n : ℕ} {old new : Tokens} (front : Tokens) → old ≡ front ++ new → Plain old
-    → Finds (model_tokens deep) is_end n (Ok x) old new → model_tokens deep n End front → (new ≡ [] → ⊥)
+    → FindsRefusal (model_tokens deep) is_end n (Ok x) old new → model_tokens deep n End front → (new ≡ [] → ⊥)
     → IsSyntaxAt n front new
 syntax_behind {n = n} {new = new} front e p f h some =
     record {
@@ -101,8 +101,8 @@ syntax_behind {n = n} {new = new} front e p f h some =
 
 -- Where it gives Depth, some text goes on with the token there, which is the first that is too deep.
 pub depth_there : {A : Type 0} {n : ℕ} {old new : Tokens} (p : Plain old)
-    (f : Finds {A = A} (model_tokens deep) is_end n (Err Depth) old new)
-    (s : Stands (model_tokens deep) n Depth old new)
+    (f : FindsRefusal {A = A} (model_tokens deep) is_end n (Err Depth) old new)
+    (s : StandsWhereStopped (model_tokens deep) n Depth old new)
     → IsDepthAt n s.front new
 depth_there {n = n} {new = new} p f s = by_next new refl
   where

@@ -15,7 +15,7 @@ use Rattle.expression_grammar.specs.Texts.{one_of}
 use Rattle.ar_grammar.specs.Texts.{is_unread, bracketed_tokens}
 use Rattle.expression_grammar.proofs.TextParts.{one_kind, one_as, token_as}
 use Rattle.expression_grammar.proofs.Standing.{Turns, turns_token, turns_then, turns_each, begins_token, begins_here, begins_no_more, begins_then}
-use Rattle.expression_grammar.specs.Results.{kind_at, Spans, Eats, Begins, is_sign}
+use Rattle.expression_grammar.specs.Results.{first_token_kind, Spans, Eats, BeginsForm, is_sign}
 use Rattle.ar_grammar.specs.Results.{goes_unread, ends_unread}
 use Rattle.expression_grammar.proofs.Finding.{inside, apart, fails, token_kind, then_kind, spans_map}
 use Rattle.expression_grammar.proofs.ExpressionForms.{sign_from}
@@ -80,9 +80,9 @@ unread_of_plain : (n : ℕ) (next : TokenKind) (ts : Tokens) → plain_token nex
 unread_of_plain zero next ts h = h
 unread_of_plain (suc n) next ts h = inl h
 
-pub unread_plain : (n : ℕ) {old new : Tokens} → Eats (kind_at old) old new → goes_unread (kind_at old) ≡ true
-    → kind_at old ≢ Sign OPEN_PARENTHESIS → Spans (unread_piece n) old new
-unread_plain n {old} e g o = spans_map (plain_of (kind_at old) e g o) (unread_of_plain n)
+pub unread_plain : (n : ℕ) {old new : Tokens} → Eats (first_token_kind old) old new → goes_unread (first_token_kind old) ≡ true
+    → first_token_kind old ≢ Sign OPEN_PARENTHESIS → Spans (unread_piece n) old new
+unread_plain n {old} e g o = spans_map (plain_of (first_token_kind old) e g o) (unread_of_plain n)
 
 -- "(" Unread ")"
 
@@ -164,15 +164,15 @@ piece_case (suc n) (suc m) l next next' ts (inr h) =
 pub turns_unread : (n m : ℕ) → n ≤ m → Turns (unread n) (many (unread_tokens m))
 turns_unread n m l = turns_many (λ next next' ts j. piece_case n m l next next' ts j)
 
-pub some_unread_end : {A : Form} → Begins (many A ▸ token (Sign CLOSE_PARENTHESIS)) []
+pub some_unread_end : {A : Form} → BeginsForm (many A ▸ token (Sign CLOSE_PARENTHESIS)) []
 some_unread_end = begins_then begins_no_more (begins_token (Sign CLOSE_PARENTHESIS))
 
-pub some_bracketed : (m : ℕ) → Begins (bracketed_tokens deep m) []
+pub some_bracketed : (m : ℕ) → BeginsForm (bracketed_tokens deep m) []
 some_bracketed zero = begins_token no_kind
 some_bracketed (suc m) = begins_then (begins_token (Sign OPEN_PARENTHESIS)) some_unread_end
 
 pub bracketed_at : (m : ℕ) (t : Lexeme) → is_sign OPEN_PARENTHESIS t.kind ≡ true
-    → Begins (bracketed_tokens deep (suc m)) (t ∷ [])
+    → BeginsForm (bracketed_tokens deep (suc m)) (t ∷ [])
 bracketed_at m t h = begins_then (begins_here t (Sign OPEN_PARENTHESIS) (sign_from OPEN_PARENTHESIS t.kind h))
     some_unread_end
 
@@ -278,10 +278,10 @@ kept_of : (n : ℕ) (next : TokenKind) (ts : Tokens) → kept_token next ts → 
 kept_of zero next ts h = h
 kept_of (suc n) next ts h = inl h
 
-pub kept_plain : (n : ℕ) {old new : Tokens} → Eats (kind_at old) old new → goes_kept (kind_at old) ≡ true
-    → kind_at old ≢ Sign OPEN_PARENTHESIS → Spans (kept_piece n) old new
+pub kept_plain : (n : ℕ) {old new : Tokens} → Eats (first_token_kind old) old new → goes_kept (first_token_kind old) ≡ true
+    → first_token_kind old ≢ Sign OPEN_PARENTHESIS → Spans (kept_piece n) old new
 kept_plain n {old} e g o =
-    let k = kind_at old in
+    let k = first_token_kind old in
     record {
       front = e.one ∷ [];
       split = e.split;
@@ -338,5 +338,5 @@ turns_kept_piece n m l = λ next next' ts h. by_case n m l next next' ts h
 pub turns_kept : (n m : ℕ) → n ≤ m → Turns (kept n) (kept_tokens (bracketed_tokens deep m))
 turns_kept n m l = turns_then (turns_kept_piece n m l) (turns_many (turns_kept_piece n m l))
 
-pub some_kept : (m : ℕ) → Begins (kept_tokens (bracketed_tokens deep m)) []
+pub some_kept : (m : ℕ) → BeginsForm (kept_tokens (bracketed_tokens deep m)) []
 some_kept m = begins_then (begins_map (begins_one {test = is_kept} Name refl) (λ next ts h. inl h)) begins_no_more

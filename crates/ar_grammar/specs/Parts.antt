@@ -33,8 +33,8 @@ parts_tokens = list_of (Sign AMPERSAND) part_tokens ▸ token (Sign SEMICOLON)
 abbrev pub guarded_tokens : ℕ → Form
 guarded_tokens n = expr_tokens deep n ▸ token (Sign ARROW) ▸ instr_tokens deep n
 
-abbrev pub transition_of : ℕ → Form
-transition_of n = transition_tokens (expr_tokens deep n) (instr_tokens deep n)
+abbrev pub transition_form : ℕ → Form
+transition_form n = transition_tokens (expr_tokens deep n) (instr_tokens deep n)
 
 abbrev pub section_of : ℕ → Form
 section_of n = section_tokens (expr_tokens deep n) (instr_tokens deep n)

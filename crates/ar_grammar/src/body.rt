@@ -10,7 +10,7 @@ ghost use Rattle.expression_grammar.specs.Expressions.{Node, ReadsExpr};
 ghost use Rattle.ar_grammar.specs.Members.{ReadsType, ReadsSingle, ReadsKeyed, ReadsUnit, ReadsMember, ReadsSection, ReadsLater, ReadsSections, ReadsBody, kept};
 ghost use Rattle.ar_grammar.specs.Texts.{body_tokens};
 ghost use Rattle.ar_grammar.specs.Parts.{alias_tokens, value_tokens, single_tokens, parameter_tokens, section_of, unit_of, member_tokens, keyed_of, sections_tokens, later_tokens};
-ghost use Rattle.expression_grammar.specs.Results.{Takes, Finds, Halts, Spans, anything};
+ghost use Rattle.expression_grammar.specs.Results.{TakesTokens, FindsRefusal, Halts, Spans, anything};
 ghost use Rattle.ar_grammar.specs.Results.{ends_body, ends_members, ends_section};
 
 use crate::begins::{begins_body, begins_later, begins_member, begins_section};
@@ -22,6 +22,19 @@ use ar_lexer::{TokenKind, signs, words};
 use ar_syntax::{Member, Path, RawExpr, TypeName, Unit};
 use expression_grammar::{Parser, Refusal, no_room, put};
 
+/// Takes name Body "end".
+#[cycle(body)]
+pub(crate) fn unit(parser: &mut Parser<'_>, left: u32) -> Result<Unit, Refusal>
+    ensures found { TakesTokens (ReadsUnit (ReadsBody left)) result parser.old.rest.now parser.new.rest.now }
+    ensures only { FindsRefusal unit_of anything left result parser.old.rest.now parser.new.rest.now }
+    ensures stuck { Halts unit_of left result parser.old.rest.now parser.new.rest.now }
+{
+    let (name, at) = placed_name(parser)?;
+    let members = body(parser, left)?;
+    parser.expect(TokenKind::Reserved(words::END))?;
+    Ok(Unit { name, at, members })
+}
+
 /// Takes a name between two tokens.
 fn enclosed_name(
     parser: &mut Parser<'_>,
@@ -30,9 +43,9 @@ fn enclosed_name(
 ) -> Result<(NameId, Place), Refusal>
     requires opens { opens ≢ End }
     requires closes { closes ≢ End }
-    ensures found { Takes (λ x. between opens closes (ReadsPlacedName x)) result parser.old.rest.now
+    ensures found { TakesTokens (λ x. between opens closes (ReadsPlacedName x)) result parser.old.rest.now
         parser.new.rest.now }
-    ensures only { (left : ℕ) → Finds (λ _. between opens closes (token Name)) anything left
+    ensures only { (left : ℕ) → FindsRefusal (λ _. between opens closes (token Name)) anything left
         result parser.old.rest.now parser.new.rest.now }
     ensures stuck { (left : ℕ) → Halts (λ _. between opens closes (token Name)) left result
         parser.old.rest.now parser.new.rest.now }
@@ -45,10 +58,10 @@ fn enclosed_name(
 
 /// Takes a word, a path and "as" name ";".
 fn aliased(parser: &mut Parser<'_>, word: u8) -> Result<(Path, NameId, Place), Refusal>
-    ensures found { Takes (λ x. token (Reserved word) ▸ ReadsPath x.0
+    ensures found { TakesTokens (λ x. token (Reserved word) ▸ ReadsPath x.0
         ▸ between (Reserved AS) (Sign SEMICOLON) (ReadsPlacedName (x.1, x.2))) result
         parser.old.rest.now parser.new.rest.now }
-    ensures only { (left : ℕ) → Finds (λ _. token (Reserved word) ▸ alias_tokens) anything left
+    ensures only { (left : ℕ) → FindsRefusal (λ _. token (Reserved word) ▸ alias_tokens) anything left
         result parser.old.rest.now parser.new.rest.now }
     ensures stuck { (left : ℕ) → Halts (λ _. token (Reserved word) ▸ alias_tokens) left result
         parser.old.rest.now parser.new.rest.now }
@@ -65,10 +78,10 @@ fn aliased(parser: &mut Parser<'_>, word: u8) -> Result<(Path, NameId, Place), R
 
 /// Takes Type name "=" Expr ";".
 fn valued(parser: &mut Parser<'_>, left: u32) -> Result<(TypeName, NameId, Place, RawExpr), Refusal>
-    ensures found { Takes (λ x. ReadsType x.0 ▸ ReadsPlacedName (x.1, x.2)
+    ensures found { TakesTokens (λ x. ReadsType x.0 ▸ ReadsPlacedName (x.1, x.2)
         ▸ between (Sign EQUALS) (Sign SEMICOLON) (Node (ReadsExpr left) x.3)) result
         parser.old.rest.now parser.new.rest.now }
-    ensures only { Finds value_tokens anything left result parser.old.rest.now parser.new.rest.now }
+    ensures only { FindsRefusal value_tokens anything left result parser.old.rest.now parser.new.rest.now }
     ensures stuck { Halts value_tokens left result parser.old.rest.now parser.new.rest.now }
 {
     let of_type = type_name(parser)?;
@@ -83,8 +96,8 @@ fn valued(parser: &mut Parser<'_>, left: u32) -> Result<(TypeName, NameId, Place
 
 /// Takes a clause that begins with a reserved word and makes one member.
 fn single(parser: &mut Parser<'_>, left: u32) -> Result<Member, Refusal>
-    ensures found { Takes (ReadsSingle left) result parser.old.rest.now parser.new.rest.now }
-    ensures only { Finds single_tokens anything left result parser.old.rest.now parser.new.rest.now }
+    ensures found { TakesTokens (ReadsSingle left) result parser.old.rest.now parser.new.rest.now }
+    ensures only { FindsRefusal single_tokens anything left result parser.old.rest.now parser.new.rest.now }
     ensures stuck { Halts single_tokens left result parser.old.rest.now parser.new.rest.now }
 {
     if parser.is_at(TokenKind::Reserved(words::EXTENDS)) {
@@ -115,8 +128,8 @@ fn single(parser: &mut Parser<'_>, left: u32) -> Result<Member, Refusal>
 
 /// Takes "parameter" ( "Real" name "=" Kept | Type name "=" Expr ) ";".
 fn parameter(parser: &mut Parser<'_>, left: u32) -> Result<Member, Refusal>
-    ensures found { Takes (ReadsSingle left) result parser.old.rest.now parser.new.rest.now }
-    ensures only { Finds parameter_tokens anything left result parser.old.rest.now
+    ensures found { TakesTokens (ReadsSingle left) result parser.old.rest.now parser.new.rest.now }
+    ensures only { FindsRefusal parameter_tokens anything left result parser.old.rest.now
         parser.new.rest.now }
     ensures stuck { Halts parameter_tokens left result parser.old.rest.now parser.new.rest.now }
 {
@@ -137,7 +150,7 @@ fn parameter(parser: &mut Parser<'_>, left: u32) -> Result<Member, Refusal>
 fn section(parser: &mut Parser<'_>, left: u32, members: &mut Vec<Member>) -> Result<(), Refusal>
     ensures found { IfOk result (λ _. (ms : _) × (members.new.items ≡ members.old.items ++ ms)
         × Spans (ReadsSection left ms) parser.old.rest.now parser.new.rest.now) }
-    ensures only { Finds section_of ends_section left result parser.old.rest.now
+    ensures only { FindsRefusal section_of ends_section left result parser.old.rest.now
         parser.new.rest.now }
     ensures stuck { Halts section_of left result parser.old.rest.now parser.new.rest.now }
 {
@@ -150,25 +163,12 @@ fn section(parser: &mut Parser<'_>, left: u32, members: &mut Vec<Member>) -> Res
     Ok(())
 }
 
-/// Takes name Body "end".
-#[cycle(body)]
-pub(crate) fn unit(parser: &mut Parser<'_>, left: u32) -> Result<Unit, Refusal>
-    ensures found { Takes (ReadsUnit (ReadsBody left)) result parser.old.rest.now parser.new.rest.now }
-    ensures only { Finds unit_of anything left result parser.old.rest.now parser.new.rest.now }
-    ensures stuck { Halts unit_of left result parser.old.rest.now parser.new.rest.now }
-{
-    let (name, at) = placed_name(parser)?;
-    let members = body(parser, left)?;
-    parser.expect(TokenKind::Reserved(words::END))?;
-    Ok(Unit { name, at, members })
-}
-
 /// Takes a body, with room for `left` open productions: { Member } [ Section { Section | Keyed } ].
 #[cycle(body)]
 fn body(parser: &mut Parser<'_>, left: u32) -> Result<Vec<Member>, Refusal>
-    ensures found { Takes (λ members. ReadsBody left members.items) result parser.old.rest.now
+    ensures found { TakesTokens (λ members. ReadsBody left members.items) result parser.old.rest.now
         parser.new.rest.now }
-    ensures only { Finds (body_tokens deep) ends_body left result parser.old.rest.now
+    ensures only { FindsRefusal (body_tokens deep) ends_body left result parser.old.rest.now
         parser.new.rest.now }
     ensures stuck { Halts (body_tokens deep) left result parser.old.rest.now parser.new.rest.now }
 {
@@ -193,7 +193,7 @@ fn opening_members(
 ) -> Result<(), Refusal>
     ensures found { IfOk result (λ _. (ms : _) × (members.new.items ≡ members.old.items ++ ms)
         × Spans (groups (ReadsMember left (ReadsBody left)) ms) parser.old.rest.now parser.new.rest.now) }
-    ensures only { Finds (λ n. many (member_tokens n)) ends_members left result parser.old.rest.now
+    ensures only { FindsRefusal (λ n. many (member_tokens n)) ends_members left result parser.old.rest.now
         parser.new.rest.now }
     ensures stuck { Halts (λ n. many (member_tokens n)) left result parser.old.rest.now
         parser.new.rest.now }
@@ -209,7 +209,7 @@ fn opening_members(
 fn member(parser: &mut Parser<'_>, left: u32, members: &mut Vec<Member>) -> Result<(), Refusal>
     ensures found { IfOk result (λ _. (ms : _) × (members.new.items ≡ members.old.items ++ ms)
         × Spans (ReadsMember left (ReadsBody left) ms) parser.old.rest.now parser.new.rest.now) }
-    ensures only { Finds member_tokens anything left result parser.old.rest.now parser.new.rest.now }
+    ensures only { FindsRefusal member_tokens anything left result parser.old.rest.now parser.new.rest.now }
     ensures stuck { Halts member_tokens left result parser.old.rest.now parser.new.rest.now }
 {
     if parser.is_at(TokenKind::Name) {
@@ -224,7 +224,7 @@ fn member(parser: &mut Parser<'_>, left: u32, members: &mut Vec<Member>) -> Resu
 fn keyed(parser: &mut Parser<'_>, left: u32, members: &mut Vec<Member>) -> Result<(), Refusal>
     ensures found { IfOk result (λ _. (ms : _) × (members.new.items ≡ members.old.items ++ ms)
         × Spans (ReadsKeyed left (ReadsBody left) ms) parser.old.rest.now parser.new.rest.now) }
-    ensures only { Finds keyed_of anything left result parser.old.rest.now parser.new.rest.now }
+    ensures only { FindsRefusal keyed_of anything left result parser.old.rest.now parser.new.rest.now }
     ensures stuck { Halts keyed_of left result parser.old.rest.now parser.new.rest.now }
 {
     if parser.is_at(TokenKind::Reserved(words::EVENT)) {
@@ -246,7 +246,7 @@ fn keyed(parser: &mut Parser<'_>, left: u32, members: &mut Vec<Member>) -> Resul
 fn sections(parser: &mut Parser<'_>, left: u32, members: &mut Vec<Member>) -> Result<(), Refusal>
     ensures found { IfOk result (λ _. (ms : _) × (members.new.items ≡ members.old.items ++ ms)
         × Spans (ReadsSections left (ReadsBody left) ms) parser.old.rest.now parser.new.rest.now) }
-    ensures only { Finds sections_tokens ends_body left result parser.old.rest.now
+    ensures only { FindsRefusal sections_tokens ends_body left result parser.old.rest.now
         parser.new.rest.now }
     ensures stuck { Halts sections_tokens left result parser.old.rest.now parser.new.rest.now }
 {
@@ -267,7 +267,7 @@ fn later_clauses(
 ) -> Result<(), Refusal>
     ensures found { IfOk result (λ _. (ms : _) × (members.new.items ≡ members.old.items ++ ms)
         × Spans (groups (ReadsLater left (ReadsBody left)) ms) parser.old.rest.now parser.new.rest.now) }
-    ensures only { Finds (λ n. many (later_tokens n)) ends_body left result parser.old.rest.now
+    ensures only { FindsRefusal (λ n. many (later_tokens n)) ends_body left result parser.old.rest.now
         parser.new.rest.now }
     ensures stuck { Halts (λ n. later_tokens n ▸ many (later_tokens n)) left result
         parser.old.rest.now parser.new.rest.now }
@@ -287,7 +287,7 @@ fn later_clause(
 ) -> Result<(), Refusal>
     ensures found { IfOk result (λ _. (ms : _) × (members.new.items ≡ members.old.items ++ ms)
         × Spans (ReadsLater left (ReadsBody left) ms) parser.old.rest.now parser.new.rest.now) }
-    ensures only { Finds later_tokens ends_section left result parser.old.rest.now
+    ensures only { FindsRefusal later_tokens ends_section left result parser.old.rest.now
         parser.new.rest.now }
     ensures stuck { Halts later_tokens left result parser.old.rest.now parser.new.rest.now }
 {

@@ -8,7 +8,7 @@ ghost use Rattle.ar_grammar.specs.InstructionsInside.{ReadsConditional, ReadsGro
 ghost use Rattle.ar_lexer.specs.declared.words.TheConstants.{ELSE};
 ghost use Rattle.expression_grammar.specs.Texts.{expr_tokens};
 ghost use Rattle.ar_grammar.specs.Texts.{instr_tokens, conditional_tokens, else_tokens, group_tokens, simple_tokens};
-ghost use Rattle.expression_grammar.specs.Results.{kind_at, Takes, Finds, Halts, Spans, anything};
+ghost use Rattle.expression_grammar.specs.Results.{first_token_kind, TakesTokens, FindsRefusal, Halts, Spans, anything};
 ghost use Rattle.ar_grammar.specs.Results.{ends_group};
 
 use crate::begins::begins_instr;
@@ -19,8 +19,8 @@ use expression_grammar::{Parser, Refusal, in_box, no_room, put};
 /// Takes an instruction, with room for `left` open productions.
 #[cycle(instruction)]
 pub(crate) fn instr(parser: &mut Parser<'_>, left: u32) -> Result<Instr, Refusal>
-    ensures found { Takes (ReadsInstr left) result parser.old.rest.now parser.new.rest.now }
-    ensures only { Finds (instr_tokens deep) anything left result parser.old.rest.now
+    ensures found { TakesTokens (ReadsInstr left) result parser.old.rest.now parser.new.rest.now }
+    ensures only { FindsRefusal (instr_tokens deep) anything left result parser.old.rest.now
         parser.new.rest.now }
     ensures stuck { Halts (instr_tokens deep) left result parser.old.rest.now parser.new.rest.now }
 {
@@ -39,8 +39,8 @@ pub(crate) fn instr(parser: &mut Parser<'_>, left: u32) -> Result<Instr, Refusal
 /// Takes "if" Expr "then" Instr [ "else" Instr ].
 #[cycle(instruction)]
 fn conditional(parser: &mut Parser<'_>, left: u32) -> Result<Instr, Refusal>
-    ensures found { Takes (ReadsConditional left) result parser.old.rest.now parser.new.rest.now }
-    ensures only { Finds (λ n. conditional_tokens (expr_tokens deep n) (instr_tokens deep n)) anything
+    ensures found { TakesTokens (ReadsConditional left) result parser.old.rest.now parser.new.rest.now }
+    ensures only { FindsRefusal (λ n. conditional_tokens (expr_tokens deep n) (instr_tokens deep n)) anything
         left result parser.old.rest.now parser.new.rest.now }
     ensures stuck { Halts (λ n. conditional_tokens (expr_tokens deep n) (instr_tokens deep n)) left
         result parser.old.rest.now parser.new.rest.now }
@@ -58,9 +58,9 @@ fn conditional(parser: &mut Parser<'_>, left: u32) -> Result<Instr, Refusal>
 /// Takes the instruction of a branch.
 #[cycle(instruction)]
 fn branch(parser: &mut Parser<'_>, left: u32) -> Result<Box<Instr>, Refusal>
-    ensures found { Takes (λ branch. ReadsInstr left branch.value) result parser.old.rest.now
+    ensures found { TakesTokens (λ branch. ReadsInstr left branch.value) result parser.old.rest.now
         parser.new.rest.now }
-    ensures only { Finds (instr_tokens deep) anything left result parser.old.rest.now
+    ensures only { FindsRefusal (instr_tokens deep) anything left result parser.old.rest.now
         parser.new.rest.now }
     ensures stuck { Halts (instr_tokens deep) left result parser.old.rest.now parser.new.rest.now }
 {
@@ -71,10 +71,10 @@ fn branch(parser: &mut Parser<'_>, left: u32) -> Result<Box<Instr>, Refusal>
 /// Takes [ "else" Instr ].
 #[cycle(instruction)]
 fn other_branch(parser: &mut Parser<'_>, left: u32) -> Result<Option<Box<Instr>>, Refusal>
-    ensures found { Takes (ReadsElse (ReadsInstr left)) result parser.old.rest.now parser.new.rest.now }
-    ensures only { Finds (λ n. else_tokens (instr_tokens deep n)) anything left result
+    ensures found { TakesTokens (ReadsElse (ReadsInstr left)) result parser.old.rest.now parser.new.rest.now }
+    ensures only { FindsRefusal (λ n. else_tokens (instr_tokens deep n)) anything left result
         parser.old.rest.now parser.new.rest.now }
-    ensures began { IfErr result (λ _. kind_at parser.old.rest.now ≡ Reserved ELSE) }
+    ensures began { IfErr result (λ _. first_token_kind parser.old.rest.now ≡ Reserved ELSE) }
     ensures stuck { Halts (λ n. token (Reserved ELSE) ▸ instr_tokens deep n) left result
         parser.old.rest.now parser.new.rest.now }
 {
@@ -88,8 +88,8 @@ fn other_branch(parser: &mut Parser<'_>, left: u32) -> Result<Option<Box<Instr>>
 /// Takes "{" { Instr } "}".
 #[cycle(instruction)]
 fn group(parser: &mut Parser<'_>, left: u32) -> Result<Instr, Refusal>
-    ensures found { Takes (ReadsGroup left) result parser.old.rest.now parser.new.rest.now }
-    ensures only { Finds (λ n. group_tokens (instr_tokens deep n)) anything left result
+    ensures found { TakesTokens (ReadsGroup left) result parser.old.rest.now parser.new.rest.now }
+    ensures only { FindsRefusal (λ n. group_tokens (instr_tokens deep n)) anything left result
         parser.old.rest.now parser.new.rest.now }
     ensures stuck { Halts (λ n. group_tokens (instr_tokens deep n)) left result parser.old.rest.now
         parser.new.rest.now }
@@ -106,7 +106,7 @@ fn group(parser: &mut Parser<'_>, left: u32) -> Result<Instr, Refusal>
 fn more_instrs(parser: &mut Parser<'_>, left: u32, instrs: &mut Vec<Instr>) -> Result<(), Refusal>
     ensures found { IfOk result (λ _. (more : _) × (instrs.new.items ≡ instrs.old.items ++ more)
         × Spans (each (ReadsInstr left) more) parser.old.rest.now parser.new.rest.now) }
-    ensures only { Finds (λ n. many (instr_tokens deep n)) ends_group left result
+    ensures only { FindsRefusal (λ n. many (instr_tokens deep n)) ends_group left result
         parser.old.rest.now parser.new.rest.now }
     ensures stuck { Halts (λ n. many (instr_tokens deep n)) left result parser.old.rest.now
         parser.new.rest.now }
@@ -120,8 +120,8 @@ fn more_instrs(parser: &mut Parser<'_>, left: u32, instrs: &mut Vec<Instr>) -> R
 
 /// Takes Path ( ":=" Expr | ":=:" Path ) ";" or "skip" ";".
 fn simple(parser: &mut Parser<'_>, left: u32) -> Result<Instr, Refusal>
-    ensures found { Takes (ReadsSimple left) result parser.old.rest.now parser.new.rest.now }
-    ensures only { Finds (λ n. simple_tokens (expr_tokens deep n)) anything left result
+    ensures found { TakesTokens (ReadsSimple left) result parser.old.rest.now parser.new.rest.now }
+    ensures only { FindsRefusal (λ n. simple_tokens (expr_tokens deep n)) anything left result
         parser.old.rest.now parser.new.rest.now }
     ensures stuck { Halts (λ n. simple_tokens (expr_tokens deep n)) left result parser.old.rest.now
         parser.new.rest.now }

@@ -6,7 +6,7 @@ ghost use Rattle.expression_grammar.specs.Words.{deep, each, many, ReadsSome};
 ghost use Rattle.ar_grammar.specs.Texts.{whole_tokens, bound_tokens, domain_tokens, item_tokens, model_tokens};
 ghost use Rattle.ar_grammar.specs.Parts.{domain_body_tokens};
 ghost use Rattle.ar_grammar.specs.Items.{ReadsWhole, ReadsBound, ReadsDomainBody, ReadsDomain, ReadsItem, ReadsItems};
-ghost use Rattle.expression_grammar.specs.Results.{kind_at, Takes, Finds, Halts, Spans, Eats, Plain, anything};
+ghost use Rattle.expression_grammar.specs.Results.{first_token_kind, TakesTokens, FindsRefusal, Halts, Spans, Eats, Plain, anything};
 ghost use Rattle.ar_grammar.specs.Results.{Gets, AreUnsigned, IsRefusedAs, ends_item, is_end};
 
 use crate::begins::begins_item;
@@ -16,11 +16,26 @@ use ar_lexer::{TokenKind, signs, words};
 use ar_syntax::{DomainBody, DomainDecl, Item};
 use expression_grammar::{Parser, Refusal, list_of, put};
 
+/// Takes all that is left as the items of a model, or stops at the token that is refused.
+pub fn model(parser: &mut Parser<'_>, left: u32) -> Result<Vec<Item>, Refusal>
+    requires unsigned { AreUnsigned parser.old.rest.now }
+    requires plain { Plain parser.old.rest.now }
+    ensures found { IfOk result (λ items. ReadsItems left items.items End parser.old.rest.now) }
+    ensures only { (n : ℕ) → ReadsSome (ReadsItems n) End parser.old.rest.now → Gets left n result }
+    ensures stuck { IfErr result (λ e. IsRefusedAs left e parser.old.rest.now parser.new.rest.now) }
+{
+    let items = items(parser, left)?;
+    if parser.rest.is_empty() {
+        return Ok(items);
+    }
+    Err(Refusal::Syntax)
+}
+
 /// Takes the next token if it is a whole number.
 fn eat_whole(parser: &mut Parser<'_>) -> Option<i64>
     ensures taken { IfSome result (λ n. Eats (Whole n) parser.old.rest.now parser.new.rest.now) }
     ensures left { IfNone result (parser.new.rest.now ≡ parser.old.rest.now) }
-    ensures other { IfNone result ((n : _) → kind_at parser.old.rest.now ≢ Whole n) }
+    ensures other { IfNone result ((n : _) → first_token_kind parser.old.rest.now ≢ Whole n) }
 {
     if let Some((next, rest)) = parser.rest.split_first() {
         if let TokenKind::Whole(n) = next.kind {
@@ -34,8 +49,8 @@ fn eat_whole(parser: &mut Parser<'_>) -> Option<i64>
 /// Takes a whole number.
 fn whole(parser: &mut Parser<'_>) -> Result<i64, Refusal>
     requires { AreUnsigned parser.old.rest.now }
-    ensures found { Takes ReadsWhole result parser.old.rest.now parser.new.rest.now }
-    ensures only { (left : ℕ) → Finds (λ _. whole_tokens) anything left result parser.old.rest.now
+    ensures found { TakesTokens ReadsWhole result parser.old.rest.now parser.new.rest.now }
+    ensures only { (left : ℕ) → FindsRefusal (λ _. whole_tokens) anything left result parser.old.rest.now
         parser.new.rest.now }
     ensures stuck { (left : ℕ) → Halts (λ _. whole_tokens) left result parser.old.rest.now
         parser.new.rest.now }
@@ -49,8 +64,8 @@ fn whole(parser: &mut Parser<'_>) -> Result<i64, Refusal>
 /// Takes a bound of a range: [ "-" ] whole.
 fn bound(parser: &mut Parser<'_>) -> Result<i64, Refusal>
     requires { AreUnsigned parser.old.rest.now }
-    ensures found { Takes ReadsBound result parser.old.rest.now parser.new.rest.now }
-    ensures only { (left : ℕ) → Finds (λ _. bound_tokens) anything left result parser.old.rest.now
+    ensures found { TakesTokens ReadsBound result parser.old.rest.now parser.new.rest.now }
+    ensures only { (left : ℕ) → FindsRefusal (λ _. bound_tokens) anything left result parser.old.rest.now
         parser.new.rest.now }
     ensures stuck { (left : ℕ) → Halts (λ _. bound_tokens) left result parser.old.rest.now
         parser.new.rest.now }
@@ -65,8 +80,8 @@ fn bound(parser: &mut Parser<'_>) -> Result<i64, Refusal>
 /// Takes what a domain holds: "{" Names "}" | "[" Bound "," Bound "]".
 fn domain_body(parser: &mut Parser<'_>) -> Result<DomainBody, Refusal>
     requires { AreUnsigned parser.old.rest.now }
-    ensures found { Takes ReadsDomainBody result parser.old.rest.now parser.new.rest.now }
-    ensures only { (left : ℕ) → Finds (λ _. domain_body_tokens) anything left result
+    ensures found { TakesTokens ReadsDomainBody result parser.old.rest.now parser.new.rest.now }
+    ensures only { (left : ℕ) → FindsRefusal (λ _. domain_body_tokens) anything left result
         parser.old.rest.now parser.new.rest.now }
     ensures stuck { (left : ℕ) → Halts (λ _. domain_body_tokens) left result parser.old.rest.now
         parser.new.rest.now }
@@ -87,8 +102,8 @@ fn domain_body(parser: &mut Parser<'_>) -> Result<DomainBody, Refusal>
 /// Takes "domain" name DomainBody [ ";" ].
 fn domain(parser: &mut Parser<'_>) -> Result<DomainDecl, Refusal>
     requires { AreUnsigned parser.old.rest.now }
-    ensures found { Takes ReadsDomain result parser.old.rest.now parser.new.rest.now }
-    ensures only { (left : ℕ) → Finds (λ _. domain_tokens) ends_item left result parser.old.rest.now
+    ensures found { TakesTokens ReadsDomain result parser.old.rest.now parser.new.rest.now }
+    ensures only { (left : ℕ) → FindsRefusal (λ _. domain_tokens) ends_item left result parser.old.rest.now
         parser.new.rest.now }
     ensures stuck { (left : ℕ) → Halts (λ _. domain_tokens) left result parser.old.rest.now
         parser.new.rest.now }
@@ -104,8 +119,8 @@ fn domain(parser: &mut Parser<'_>) -> Result<DomainDecl, Refusal>
 /// Takes an item, with room for `left` open productions.
 fn item(parser: &mut Parser<'_>, left: u32) -> Result<Item, Refusal>
     requires { AreUnsigned parser.old.rest.now }
-    ensures found { Takes (ReadsItem left) result parser.old.rest.now parser.new.rest.now }
-    ensures only { Finds (item_tokens deep) ends_item left result parser.old.rest.now
+    ensures found { TakesTokens (ReadsItem left) result parser.old.rest.now parser.new.rest.now }
+    ensures only { FindsRefusal (item_tokens deep) ends_item left result parser.old.rest.now
         parser.new.rest.now }
     ensures stuck { Halts (item_tokens deep) left result parser.old.rest.now parser.new.rest.now }
 {
@@ -127,7 +142,7 @@ fn more_items(parser: &mut Parser<'_>, left: u32, items: &mut Vec<Item>) -> Resu
     requires { AreUnsigned parser.old.rest.now }
     ensures found { IfOk result (λ _. (more : _) × (items.new.items ≡ items.old.items ++ more)
         × Spans (each (ReadsItem left) more) parser.old.rest.now parser.new.rest.now) }
-    ensures only { Finds (λ n. many (item_tokens deep n)) is_end left result parser.old.rest.now
+    ensures only { FindsRefusal (λ n. many (item_tokens deep n)) is_end left result parser.old.rest.now
         parser.new.rest.now }
     ensures stuck { Halts (λ n. many (item_tokens deep n)) left result parser.old.rest.now
         parser.new.rest.now }
@@ -142,9 +157,9 @@ fn more_items(parser: &mut Parser<'_>, left: u32, items: &mut Vec<Item>) -> Resu
 /// Takes the items of a model: Item { Item }.
 fn items(parser: &mut Parser<'_>, left: u32) -> Result<Vec<Item>, Refusal>
     requires { AreUnsigned parser.old.rest.now }
-    ensures found { Takes (λ items. ReadsItems left items.items) result parser.old.rest.now
+    ensures found { TakesTokens (λ items. ReadsItems left items.items) result parser.old.rest.now
         parser.new.rest.now }
-    ensures only { Finds (model_tokens deep) is_end left result parser.old.rest.now
+    ensures only { FindsRefusal (model_tokens deep) is_end left result parser.old.rest.now
         parser.new.rest.now }
     ensures stuck { Halts (model_tokens deep) left result parser.old.rest.now parser.new.rest.now }
 {
@@ -152,19 +167,4 @@ fn items(parser: &mut Parser<'_>, left: u32) -> Result<Vec<Item>, Refusal>
     let mut items = list_of(parser.alloc, first)?;
     more_items(parser, left, &mut items)?;
     Ok(items)
-}
-
-/// Takes all that is left as the items of a model, or stops at the token that is refused.
-pub fn model(parser: &mut Parser<'_>, left: u32) -> Result<Vec<Item>, Refusal>
-    requires unsigned { AreUnsigned parser.old.rest.now }
-    requires plain { Plain parser.old.rest.now }
-    ensures found { IfOk result (λ items. ReadsItems left items.items End parser.old.rest.now) }
-    ensures only { (n : ℕ) → ReadsSome (ReadsItems n) End parser.old.rest.now → Gets left n result }
-    ensures stuck { IfErr result (λ e. IsRefusedAs left e parser.old.rest.now parser.new.rest.now) }
-{
-    let items = items(parser, left)?;
-    if parser.rest.is_empty() {
-        return Ok(items);
-    }
-    Err(Refusal::Syntax)
 }

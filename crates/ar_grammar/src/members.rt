@@ -8,8 +8,8 @@ ghost use Rattle.expression_grammar.specs.Words.{token, deep, ◌▸◌, between
 ghost use Rattle.ar_grammar.specs.Members.{ReadsType, ReadsWord, ReadsSetting, ReadsSettings, ReadsDeclared, ReadsEvent, ReadsHidden, ReadsPart, ReadsTransition, ReadsAssertion};
 ghost use Rattle.expression_grammar.specs.Texts.{one_of, list_of, path_tokens, expr_tokens};
 ghost use Rattle.ar_grammar.specs.Texts.{is_type, is_target_word, setting_tokens, settings_tokens, declared_rest, instr_tokens, is_part};
-ghost use Rattle.ar_grammar.specs.Parts.{event_tokens, part_tokens, parts_tokens, transition_of};
-ghost use Rattle.expression_grammar.specs.Results.{kind_at, Takes, Finds, Halts, Spans, anything, ends_path, ends_expr, ends_list};
+ghost use Rattle.ar_grammar.specs.Parts.{event_tokens, part_tokens, parts_tokens, transition_form};
+ghost use Rattle.expression_grammar.specs.Results.{first_token_kind, TakesTokens, FindsRefusal, Halts, Spans, anything, ends_path, ends_expr, ends_list};
 ghost use Rattle.ar_grammar.specs.Results.{ends_attribute, ends_semicolon, ends_target, ends_transitions, ends_assertions, begins_part};
 
 use crate::begins::begins_instr;
@@ -22,8 +22,8 @@ use expression_grammar::{Parser, Refusal, list_of, put};
 
 /// Takes a type: "Boolean" | "Integer" | name.
 pub(crate) fn type_name(parser: &mut Parser<'_>) -> Result<TypeName, Refusal>
-    ensures found { Takes ReadsType result parser.old.rest.now parser.new.rest.now }
-    ensures only { (left : ℕ) → Finds (λ _. one_of is_type) anything left result
+    ensures found { TakesTokens ReadsType result parser.old.rest.now parser.new.rest.now }
+    ensures only { (left : ℕ) → FindsRefusal (λ _. one_of is_type) anything left result
         parser.old.rest.now parser.new.rest.now }
     ensures stuck { (left : ℕ) → Halts (λ _. one_of is_type) left result parser.old.rest.now
         parser.new.rest.now }
@@ -50,8 +50,8 @@ pub(crate) fn type_name(parser: &mut Parser<'_>) -> Result<TypeName, Refusal>
 
 /// Takes a word of a target: name | "init" | "reset".
 fn word(parser: &mut Parser<'_>) -> Result<Word, Refusal>
-    ensures found { Takes ReadsWord result parser.old.rest.now parser.new.rest.now }
-    ensures only { (left : ℕ) → Finds (λ _. one_of is_target_word) anything left result
+    ensures found { TakesTokens ReadsWord result parser.old.rest.now parser.new.rest.now }
+    ensures only { (left : ℕ) → FindsRefusal (λ _. one_of is_target_word) anything left result
         parser.old.rest.now parser.new.rest.now }
     ensures stuck { (left : ℕ) → Halts (λ _. one_of is_target_word) left result
         parser.old.rest.now parser.new.rest.now }
@@ -71,7 +71,7 @@ fn more_words(parser: &mut Parser<'_>, target: &mut Vec<Word>) -> Result<(), Ref
     ensures found { IfOk result (λ _. (more : _) × (target.new.items ≡ target.old.items ++ more)
         × Spans (each (λ w. token (Sign DOT) ▸ ReadsWord w) more) parser.old.rest.now
         parser.new.rest.now) }
-    ensures only { (left : ℕ) → Finds (λ _. many (token (Sign DOT) ▸ one_of is_target_word))
+    ensures only { (left : ℕ) → FindsRefusal (λ _. many (token (Sign DOT) ▸ one_of is_target_word))
         ends_target left result parser.old.rest.now parser.new.rest.now }
     ensures stuck { (left : ℕ) → Halts (λ _. many (token (Sign DOT) ▸ one_of is_target_word))
         left result parser.old.rest.now parser.new.rest.now }
@@ -85,9 +85,9 @@ fn more_words(parser: &mut Parser<'_>, target: &mut Vec<Word>) -> Result<(), Ref
 
 /// Takes the target of a setting: Word { "." Word }.
 fn target(parser: &mut Parser<'_>) -> Result<Vec<Word>, Refusal>
-    ensures found { Takes (λ target. separated_by (Sign DOT) ReadsWord target.items) result
+    ensures found { TakesTokens (λ target. separated_by (Sign DOT) ReadsWord target.items) result
         parser.old.rest.now parser.new.rest.now }
-    ensures only { (left : ℕ) → Finds (λ _. list_of (Sign DOT) (one_of is_target_word))
+    ensures only { (left : ℕ) → FindsRefusal (λ _. list_of (Sign DOT) (one_of is_target_word))
         ends_target left result parser.old.rest.now parser.new.rest.now }
     ensures stuck { (left : ℕ) → Halts (λ _. list_of (Sign DOT) (one_of is_target_word)) left
         result parser.old.rest.now parser.new.rest.now }
@@ -100,8 +100,8 @@ fn target(parser: &mut Parser<'_>) -> Result<Vec<Word>, Refusal>
 
 /// Takes Word { "." Word } "=" Expr.
 fn setting(parser: &mut Parser<'_>, left: u32) -> Result<Setting, Refusal>
-    ensures found { Takes (ReadsSetting left) result parser.old.rest.now parser.new.rest.now }
-    ensures only { Finds (λ n. setting_tokens (expr_tokens deep n)) ends_expr left result
+    ensures found { TakesTokens (ReadsSetting left) result parser.old.rest.now parser.new.rest.now }
+    ensures only { FindsRefusal (λ n. setting_tokens (expr_tokens deep n)) ends_expr left result
         parser.old.rest.now parser.new.rest.now }
     ensures stuck { Halts (λ n. setting_tokens (expr_tokens deep n)) left result parser.old.rest.now
         parser.new.rest.now }
@@ -123,7 +123,7 @@ fn more_settings(
         × (settings.new.items ≡ settings.old.items ++ more)
         × Spans (each (λ s. token (Sign COMMA) ▸ ReadsSetting left s) more) parser.old.rest.now
         parser.new.rest.now) }
-    ensures only { Finds (λ n. many (token (Sign COMMA) ▸ setting_tokens (expr_tokens deep n)))
+    ensures only { FindsRefusal (λ n. many (token (Sign COMMA) ▸ setting_tokens (expr_tokens deep n)))
         ends_list left result parser.old.rest.now parser.new.rest.now }
     ensures stuck { Halts (λ n. many (token (Sign COMMA) ▸ setting_tokens (expr_tokens deep n)))
         left result parser.old.rest.now parser.new.rest.now }
@@ -137,9 +137,9 @@ fn more_settings(
 
 /// Takes [ "(" Setting { "," Setting } ")" ].
 fn settings(parser: &mut Parser<'_>, left: u32) -> Result<Vec<Setting>, Refusal>
-    ensures found { Takes (λ settings. ReadsSettings left settings.items) result parser.old.rest.now
+    ensures found { TakesTokens (λ settings. ReadsSettings left settings.items) result parser.old.rest.now
         parser.new.rest.now }
-    ensures only { Finds (λ n. settings_tokens (expr_tokens deep n)) ends_attribute left result
+    ensures only { FindsRefusal (λ n. settings_tokens (expr_tokens deep n)) ends_attribute left result
         parser.old.rest.now parser.new.rest.now }
     ensures stuck { Halts (λ n. settings_tokens (expr_tokens deep n)) left result parser.old.rest.now
         parser.new.rest.now }
@@ -157,8 +157,8 @@ fn settings(parser: &mut Parser<'_>, left: u32) -> Result<Vec<Setting>, Refusal>
 
 /// Takes a declaration: Type Names [ Settings ] ";".
 pub(crate) fn declaration(parser: &mut Parser<'_>, left: u32) -> Result<Member, Refusal>
-    ensures found { Takes (ReadsDeclared left) result parser.old.rest.now parser.new.rest.now }
-    ensures only { Finds (λ n. one_of is_type ▸ declared_rest (expr_tokens deep n)) anything left
+    ensures found { TakesTokens (ReadsDeclared left) result parser.old.rest.now parser.new.rest.now }
+    ensures only { FindsRefusal (λ n. one_of is_type ▸ declared_rest (expr_tokens deep n)) anything left
         result parser.old.rest.now parser.new.rest.now }
     ensures stuck { Halts (λ n. one_of is_type ▸ declared_rest (expr_tokens deep n)) left result
         parser.old.rest.now parser.new.rest.now }
@@ -172,8 +172,8 @@ pub(crate) fn declaration(parser: &mut Parser<'_>, left: u32) -> Result<Member, 
 
 /// Takes name [ "(" Unread ")" ].
 fn event(parser: &mut Parser<'_>, left: u32) -> Result<Member, Refusal>
-    ensures found { Takes (ReadsEvent left) result parser.old.rest.now parser.new.rest.now }
-    ensures only { Finds event_tokens ends_attribute left result parser.old.rest.now
+    ensures found { TakesTokens (ReadsEvent left) result parser.old.rest.now parser.new.rest.now }
+    ensures only { FindsRefusal event_tokens ends_attribute left result parser.old.rest.now
         parser.new.rest.now }
     ensures stuck { Halts event_tokens left result parser.old.rest.now parser.new.rest.now }
 {
@@ -188,7 +188,7 @@ fn more_events(parser: &mut Parser<'_>, left: u32, members: &mut Vec<Member>) ->
         × (members.new.items ≡ members.old.items ++ more)
         × Spans (each (λ m. token (Sign COMMA) ▸ ReadsEvent left m) more) parser.old.rest.now
         parser.new.rest.now) }
-    ensures only { Finds (λ n. many (token (Sign COMMA) ▸ event_tokens n)) ends_semicolon left
+    ensures only { FindsRefusal (λ n. many (token (Sign COMMA) ▸ event_tokens n)) ends_semicolon left
         result parser.old.rest.now parser.new.rest.now }
     ensures stuck { Halts (λ n. many (token (Sign COMMA) ▸ event_tokens n)) left result
         parser.old.rest.now parser.new.rest.now }
@@ -209,7 +209,7 @@ pub(crate) fn events(
     ensures found { IfOk result (λ _. (ms : _) × (members.new.items ≡ members.old.items ++ ms)
         × Spans (between (Reserved EVENT) (Sign SEMICOLON)
         (separated_by (Sign COMMA) (ReadsEvent left) ms)) parser.old.rest.now parser.new.rest.now) }
-    ensures only { Finds (λ n. between (Reserved EVENT) (Sign SEMICOLON)
+    ensures only { FindsRefusal (λ n. between (Reserved EVENT) (Sign SEMICOLON)
         (list_of (Sign COMMA) (event_tokens n))) anything left result parser.old.rest.now
         parser.new.rest.now }
     ensures stuck { Halts (λ n. between (Reserved EVENT) (Sign SEMICOLON)
@@ -225,8 +225,8 @@ pub(crate) fn events(
 
 /// Takes the path of a hidden event.
 fn hidden(parser: &mut Parser<'_>) -> Result<Member, Refusal>
-    ensures found { Takes ReadsHidden result parser.old.rest.now parser.new.rest.now }
-    ensures only { (left : ℕ) → Finds (λ _. path_tokens) ends_path left result parser.old.rest.now
+    ensures found { TakesTokens ReadsHidden result parser.old.rest.now parser.new.rest.now }
+    ensures only { (left : ℕ) → FindsRefusal (λ _. path_tokens) ends_path left result parser.old.rest.now
         parser.new.rest.now }
     ensures stuck { (left : ℕ) → Halts (λ _. path_tokens) left result parser.old.rest.now
         parser.new.rest.now }
@@ -241,7 +241,7 @@ fn more_hidden(parser: &mut Parser<'_>, members: &mut Vec<Member>) -> Result<(),
         × (members.new.items ≡ members.old.items ++ more)
         × Spans (each (λ m. token (Sign COMMA) ▸ ReadsHidden m) more) parser.old.rest.now
         parser.new.rest.now) }
-    ensures only { (left : ℕ) → Finds (λ _. many (token (Sign COMMA) ▸ path_tokens))
+    ensures only { (left : ℕ) → FindsRefusal (λ _. many (token (Sign COMMA) ▸ path_tokens))
         ends_semicolon left result parser.old.rest.now parser.new.rest.now }
     ensures stuck { (left : ℕ) → Halts (λ _. many (token (Sign COMMA) ▸ path_tokens)) left result
         parser.old.rest.now parser.new.rest.now }
@@ -258,7 +258,7 @@ pub(crate) fn hides(parser: &mut Parser<'_>, members: &mut Vec<Member>) -> Resul
     ensures found { IfOk result (λ _. (ms : _) × (members.new.items ≡ members.old.items ++ ms)
         × Spans (between (Reserved HIDE) (Sign SEMICOLON) (separated_by (Sign COMMA) ReadsHidden ms))
         parser.old.rest.now parser.new.rest.now) }
-    ensures only { (left : ℕ) → Finds
+    ensures only { (left : ℕ) → FindsRefusal
         (λ _. between (Reserved HIDE) (Sign SEMICOLON) (list_of (Sign COMMA) path_tokens))
         anything left result parser.old.rest.now parser.new.rest.now }
     ensures stuck { (left : ℕ) → Halts
@@ -275,9 +275,9 @@ pub(crate) fn hides(parser: &mut Parser<'_>, members: &mut Vec<Member>) -> Resul
 
 /// Takes "!" or "?": true for "!".
 fn must(parser: &mut Parser<'_>) -> Result<bool, Refusal>
-    ensures found { Takes (λ must. token (Sign (if must then EXCLAMATION else QUESTION))) result
+    ensures found { TakesTokens (λ must. token (Sign (if must then EXCLAMATION else QUESTION))) result
         parser.old.rest.now parser.new.rest.now }
-    ensures only { (left : ℕ) → Finds (λ _. one_of is_part) anything left result
+    ensures only { (left : ℕ) → FindsRefusal (λ _. one_of is_part) anything left result
         parser.old.rest.now parser.new.rest.now }
     ensures stuck { (left : ℕ) → Halts (λ _. one_of is_part) left result parser.old.rest.now
         parser.new.rest.now }
@@ -291,8 +291,8 @@ fn must(parser: &mut Parser<'_>) -> Result<bool, Refusal>
 
 /// Takes ( "!" | "?" ) Path.
 fn part(parser: &mut Parser<'_>) -> Result<Part, Refusal>
-    ensures found { Takes ReadsPart result parser.old.rest.now parser.new.rest.now }
-    ensures only { (left : ℕ) → Finds (λ _. part_tokens) ends_path left result parser.old.rest.now
+    ensures found { TakesTokens ReadsPart result parser.old.rest.now parser.new.rest.now }
+    ensures only { (left : ℕ) → FindsRefusal (λ _. part_tokens) ends_path left result parser.old.rest.now
         parser.new.rest.now }
     ensures stuck { (left : ℕ) → Halts (λ _. part_tokens) left result parser.old.rest.now
         parser.new.rest.now }
@@ -307,7 +307,7 @@ fn more_parts(parser: &mut Parser<'_>, parts: &mut Vec<Part>) -> Result<(), Refu
     ensures found { IfOk result (λ _. (more : _) × (parts.new.items ≡ parts.old.items ++ more)
         × Spans (each (λ p. token (Sign AMPERSAND) ▸ ReadsPart p) more) parser.old.rest.now
         parser.new.rest.now) }
-    ensures only { (left : ℕ) → Finds (λ _. many (token (Sign AMPERSAND) ▸ part_tokens))
+    ensures only { (left : ℕ) → FindsRefusal (λ _. many (token (Sign AMPERSAND) ▸ part_tokens))
         ends_semicolon left result parser.old.rest.now parser.new.rest.now }
     ensures stuck { (left : ℕ) → Halts (λ _. many (token (Sign AMPERSAND) ▸ part_tokens)) left
         result parser.old.rest.now parser.new.rest.now }
@@ -321,9 +321,9 @@ fn more_parts(parser: &mut Parser<'_>, parts: &mut Vec<Part>) -> Result<(), Refu
 
 /// Takes Part { "&" Part } ";".
 fn parts(parser: &mut Parser<'_>) -> Result<Vec<Part>, Refusal>
-    ensures found { Takes (λ parts. separated_by (Sign AMPERSAND) ReadsPart parts.items
+    ensures found { TakesTokens (λ parts. separated_by (Sign AMPERSAND) ReadsPart parts.items
         ▸ token (Sign SEMICOLON)) result parser.old.rest.now parser.new.rest.now }
-    ensures only { (left : ℕ) → Finds (λ _. parts_tokens) anything left result parser.old.rest.now
+    ensures only { (left : ℕ) → FindsRefusal (λ _. parts_tokens) anything left result parser.old.rest.now
         parser.new.rest.now }
     ensures stuck { (left : ℕ) → Halts (λ _. parts_tokens) left result parser.old.rest.now
         parser.new.rest.now }
@@ -337,7 +337,7 @@ fn parts(parser: &mut Parser<'_>) -> Result<Vec<Part>, Refusal>
 
 /// Whether the next token begins a part.
 fn is_at_part(parser: &Parser<'_>) -> bool
-    ensures { result ≡ begins_part (kind_at parser.now.rest.now) }
+    ensures { result ≡ begins_part (first_token_kind parser.now.rest.now) }
 {
     parser.is_at(TokenKind::Sign(signs::EXCLAMATION))
         || parser.is_at(TokenKind::Sign(signs::QUESTION))
@@ -345,10 +345,10 @@ fn is_at_part(parser: &Parser<'_>) -> bool
 
 /// Takes name ":" ( Part { "&" Part } ";" | Expr "->" Instr ).
 fn transition(parser: &mut Parser<'_>, left: u32) -> Result<Member, Refusal>
-    ensures found { Takes (ReadsTransition left) result parser.old.rest.now parser.new.rest.now }
-    ensures only { Finds transition_of anything left result parser.old.rest.now
+    ensures found { TakesTokens (ReadsTransition left) result parser.old.rest.now parser.new.rest.now }
+    ensures only { FindsRefusal transition_form anything left result parser.old.rest.now
         parser.new.rest.now }
-    ensures stuck { Halts transition_of left result parser.old.rest.now parser.new.rest.now }
+    ensures stuck { Halts transition_form left result parser.old.rest.now parser.new.rest.now }
 {
     let (name, at) = placed_name(parser)?;
     parser.expect(TokenKind::Sign(signs::COLON))?;
@@ -371,9 +371,9 @@ pub(crate) fn transitions(
     ensures found { IfOk result (λ _. (more : _)
         × (members.new.items ≡ members.old.items ++ more)
         × Spans (each (ReadsTransition left) more) parser.old.rest.now parser.new.rest.now) }
-    ensures only { Finds (λ n. many (transition_of n)) ends_transitions left result
+    ensures only { FindsRefusal (λ n. many (transition_form n)) ends_transitions left result
         parser.old.rest.now parser.new.rest.now }
-    ensures stuck { Halts (λ n. many (transition_of n)) left result parser.old.rest.now
+    ensures stuck { Halts (λ n. many (transition_form n)) left result parser.old.rest.now
         parser.new.rest.now }
 {
     while parser.is_at(TokenKind::Name) {
@@ -392,7 +392,7 @@ pub(crate) fn assertions(
     ensures found { IfOk result (λ _. (more : _)
         × (members.new.items ≡ members.old.items ++ more)
         × Spans (each (ReadsAssertion left) more) parser.old.rest.now parser.new.rest.now) }
-    ensures only { Finds (λ n. many (instr_tokens deep n)) ends_assertions left result
+    ensures only { FindsRefusal (λ n. many (instr_tokens deep n)) ends_assertions left result
         parser.old.rest.now parser.new.rest.now }
     ensures stuck { Halts (λ n. many (instr_tokens deep n)) left result parser.old.rest.now
         parser.new.rest.now }

@@ -6,7 +6,7 @@ ghost use Rattle.ar_lexer.specs.declared.signs.TheConstants.{COMMA};
 ghost use Rattle.expression_grammar.specs.Words.{token, ◌▸◌, each, many};
 ghost use Rattle.expression_grammar.specs.Paths.{ReadsPlacedName, ReadsNames};
 ghost use Rattle.expression_grammar.specs.Texts.{names_tokens};
-ghost use Rattle.expression_grammar.specs.Results.{Takes, Finds, Halts, Spans, anything};
+ghost use Rattle.expression_grammar.specs.Results.{TakesTokens, FindsRefusal, Halts, Spans, anything};
 ghost use Rattle.ar_grammar.specs.Results.{ends_names};
 
 use ar_base::{NameId, Place};
@@ -15,8 +15,8 @@ use expression_grammar::{Parser, Refusal, list_of, put};
 
 /// Takes a name and gives its place too.
 pub(crate) fn placed_name(parser: &mut Parser<'_>) -> Result<(NameId, Place), Refusal>
-    ensures found { Takes ReadsPlacedName result parser.old.rest.now parser.new.rest.now }
-    ensures only { (left : ℕ) → Finds (λ _. token Name) anything left result parser.old.rest.now
+    ensures found { TakesTokens ReadsPlacedName result parser.old.rest.now parser.new.rest.now }
+    ensures only { (left : ℕ) → FindsRefusal (λ _. token Name) anything left result parser.old.rest.now
         parser.new.rest.now }
     ensures stuck { (left : ℕ) → Halts (λ _. token Name) left result parser.old.rest.now
         parser.new.rest.now }
@@ -30,7 +30,7 @@ fn more_names(parser: &mut Parser<'_>, names: &mut Vec<(NameId, Place)>) -> Resu
     ensures found { IfOk result (λ _. (more : _) × (names.new.items ≡ names.old.items ++ more)
         × Spans (each (λ x. token (Sign COMMA) ▸ ReadsPlacedName x) more) parser.old.rest.now
         parser.new.rest.now) }
-    ensures only { (left : ℕ) → Finds (λ _. many (token (Sign COMMA) ▸ token Name)) ends_names
+    ensures only { (left : ℕ) → FindsRefusal (λ _. many (token (Sign COMMA) ▸ token Name)) ends_names
         left result parser.old.rest.now parser.new.rest.now }
     ensures stuck { (left : ℕ) → Halts (λ _. many (token (Sign COMMA) ▸ token Name)) left result
         parser.old.rest.now parser.new.rest.now }
@@ -44,9 +44,9 @@ fn more_names(parser: &mut Parser<'_>, names: &mut Vec<(NameId, Place)>) -> Resu
 
 /// Takes names with commas between them: name { "," name }.
 pub(crate) fn names(parser: &mut Parser<'_>) -> Result<Vec<(NameId, Place)>, Refusal>
-    ensures found { Takes (λ names. ReadsNames names.items) result parser.old.rest.now
+    ensures found { TakesTokens (λ names. ReadsNames names.items) result parser.old.rest.now
         parser.new.rest.now }
-    ensures only { (left : ℕ) → Finds (λ _. names_tokens) ends_names left result parser.old.rest.now
+    ensures only { (left : ℕ) → FindsRefusal (λ _. names_tokens) ends_names left result parser.old.rest.now
         parser.new.rest.now }
     ensures stuck { (left : ℕ) → Halts (λ _. names_tokens) left result parser.old.rest.now
         parser.new.rest.now }

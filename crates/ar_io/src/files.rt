@@ -1,8 +1,8 @@
 //! The file system.
 
 ghost use Rattle.std.specs.Prelude.{◌≡◌, ℕ, ◌+◌, ◌^◌, ◌<◌, List, [], Option, Some, None, Err, take, IfOk};
-ghost use Rattle.ar_io.specs.Handing.{Reads};
-ghost use Rattle.ar_io.specs.Memories.{told_where};
+ghost use Rattle.ar_io.specs.Handing.{ReadsToTheEnd};
+ghost use Rattle.ar_io.specs.Handing.{told_where};
 
 use crate::ghost_log::GhostLog;
 use crate::memory_shelf::next_count;
@@ -119,7 +119,7 @@ fn take_all<F: Read>(alloc: Global, file: &mut F, most: usize) -> Result<Vec<u8>
 /// All that a reader has left, if that is at most `most` bytes.
 fn read_whole<F: Read>(alloc: Global, file: &mut F, most: usize) -> Result<Vec<u8>, LoadFault>
     requires { most < 2 ^ 32 }
-    ensures { Reads (F.remaining file.old) most result }
+    ensures { ReadsToTheEnd (F.remaining file.old) most result }
 {
     let bytes = take_all(alloc, file, most)?;
     if bytes.len() > most {
@@ -136,7 +136,7 @@ fn read_file<O: Opens>(
     most: usize,
 ) -> Result<Vec<u8>, LoadFault>
     requires { most < 2 ^ 32 }
-    ensures { Reads (O.held files.now name.now) most result }
+    ensures { ReadsToTheEnd (O.held files.now name.now) most result }
 {
     match files.open(name) {
         Ok(mut file) => read_whole(alloc, &mut file, most),

@@ -3,7 +3,7 @@
 ghost use Rattle.std.specs.Prelude.{◌≡◌, ◌≤◌, [], Some, length, is_ok, take, OnOk, IfErr};
 ghost use Rattle.std.specs.Io.KnownBytes.{Appends};
 ghost use Rattle.ar_io.specs.Handing.{Handed};
-ghost use Rattle.ar_io.specs.WritingInside.{Writes};
+ghost use Rattle.ar_io.specs.Handing.{Writes};
 
 use crate::ghost_text::{GhostText, Piece};
 use crate::memory_shelf::next_count;
@@ -24,7 +24,7 @@ pub struct WriterSink<W: Write + Drop> {
 pub type StdSink<'a, R> = WriterSink<Printer<'a, R>>;
 
 impl<W: Write + Drop> Model for WriterSink<W> {
-    ghost use Rattle.ar_io.specs.Memories.{Handing};
+    ghost use Rattle.ar_io.specs.Handing.{Handing};
 
     ghost Value = { Handing };
 

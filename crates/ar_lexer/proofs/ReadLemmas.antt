@@ -8,7 +8,7 @@ use Rattle.ar_lexer.specs.declared.token.TokenKind.{TokenKind}
 use Rattle.ar_lexer.specs.declared.token.TokenKind.TheVariants.{End}
 use Rattle.ar_lexer.specs.declared.token.LexFault.{LexFault}
 use Rattle.ar_lexer.specs.Tokens.{is_line_feed, place_after, IsGap, IsTokenOf, IsToken, joined_pieces, AreCut, end_of_text, AreTokens, IsFault, IsFirstFault}
-use Rattle.ar_lexer.specs.Scans.{Moves, IsTokenAt}
+use Rattle.ar_lexer.specs.Scans.{MovesPlace, IsTokenAt}
 use Rattle.ar_lexer.proofs.CutLemmas.{joined_push, joined_split, joined_last, cut_gap, cut_token}
 
 -- The text has been read as far as `rest`, which stands at this place, and has given these tokens.
@@ -24,7 +24,7 @@ read_start text = record { pieces = []; whole = refl; cut = refl; start_is = ref
 
 module _ (text rest rest' : List ℕ) (start start' n : ℕ) (there there' : Place) (found : List Token)
     (h : HasRead text rest start there found) (within : n ≤ length rest) (left : rest' ≡ drop n rest)
-    (moved : start' ≡ start + n) (moves : Moves (take n rest) there there') where
+    (moved : start' ≡ start + n) (moves : MovesPlace (take n rest) there there') where
   cut_there : AreCut [] h.pieces (take n rest ++ drop n rest) found
   cut_there = subst (λ (s : List ℕ). AreCut [] h.pieces s found) (sym (take-append-drop n rest)) h.cut
 

@@ -36,8 +36,8 @@ IsPieceAt rest TooLarge = IsTooLarge rest
 IsPieceAt rest Nothing = BeginsNothing rest
 
 -- Behind these bytes the place `old` has become `new`.
-abbrev pub Moves : List ℕ → Place → Place → Type 0
-Moves passed old new = (before : List ℕ) → old ≡ place_after before → new ≡ place_after (before ++ passed)
+abbrev pub MovesPlace : List ℕ → Place → Place → Type 0
+MovesPlace passed old new = (before : List ℕ) → old ≡ place_after before → new ≡ place_after (before ++ passed)
 
 -- a token of this kind and so many bytes
 pub record IsTokenAt (start : ℕ) (place : Place) (wanted : TokenKind) (len : ℕ) (t : Token) : Type 0 where

@@ -2,7 +2,7 @@
 
 ghost use Rattle.std.specs.Prelude.{◌≡◌, ◌+◌, ◌<◌, ◌≤◌, ◌^◌, ◌≢◌, IfOk, IfErr, IsErrAnd, MatchResult, length, take, drop};
 ghost use Rattle.ar_lexer.specs.Tokens.{AreTokens, IsFirstFault};
-ghost use Rattle.ar_lexer.specs.Scans.{Moves, IsTokenAt};
+ghost use Rattle.ar_lexer.specs.Scans.{MovesPlace, IsTokenAt};
 ghost use Rattle.ar_base.specs.Counts.{limit_of};
 ghost use Rattle.ar_base.specs.declared.counts.Count.TheVariants.{ModelBytes};
 
@@ -28,7 +28,7 @@ impl<'a> Cursor<'a> {
         requires column { self.old.place.column + len < 2 ^ 32 }
         ensures rest { self.new.rest.now ≡ drop len self.old.rest.now }
         ensures at { self.new.at ≡ self.old.at + len }
-        ensures place { Moves (take len self.old.rest.now) self.old.place self.new.place }
+        ensures place { MovesPlace (take len self.old.rest.now) self.old.place self.new.place }
     {
         let (passed, rest) = self.rest.split_at(len);
         for b in passed {

@@ -11,6 +11,15 @@ use crate::runs::digits_len;
 // The greatest whole number, 2^63 - 1.
 const GREATEST: u64 = 9_223_372_036_854_775_807;
 
+// How many bytes at the front are a fraction, an exponent or both: 0 where none stands there.
+pub fn tail_len(bytes: &[u8]) -> usize
+    ensures { IsLongestFront IsTail bytes.now result }
+{
+    let fraction = fraction_len(bytes);
+    let exponent = exponent_len(&bytes[fraction..]);
+    fraction + exponent
+}
+
 // How many bytes at the front are a fraction: 0 where none stands there.
 fn fraction_len(bytes: &[u8]) -> usize
     ensures { IsLongestFront IsFraction bytes.now result }
@@ -49,15 +58,6 @@ fn exponent_len(bytes: &[u8]) -> usize
     let sign = sign_len(rest);
     let digits = digits_len(&rest[sign..]);
     if digits == 0 { 0 } else { 1 + sign + digits }
-}
-
-// How many bytes at the front are a fraction, an exponent or both: 0 where none stands there.
-pub fn tail_len(bytes: &[u8]) -> usize
-    ensures { IsLongestFront IsTail bytes.now result }
-{
-    let fraction = fraction_len(bytes);
-    let exponent = exponent_len(&bytes[fraction..]);
-    fraction + exponent
 }
 
 // The number that the digits stand for, if it is at most 2^63 - 1.

@@ -27,6 +27,35 @@ pub enum Piece {
     Nothing,
 }
 
+/// What stands at the front of these bytes.
+pub fn piece_at(rest: &[u8]) -> Piece
+    requires { 0 < length rest.now }
+    ensures { IsPieceAt rest.now result }
+{
+    let first = rest[0];
+    if is_blank(first) {
+        return Piece::Gap(1);
+    }
+    if is_letter(first) {
+        let len = word_len(rest);
+        let kind = match word_of(&rest[..len]) {
+            Some(word) => TokenKind::Reserved(word),
+            None => TokenKind::Name,
+        };
+        return Piece::Text(kind, len);
+    }
+    if first.is_ascii_digit() {
+        return number_at(rest);
+    }
+    if let Some(piece) = comment_at(rest) {
+        return piece;
+    }
+    match sign_at(rest) {
+        Some((sign, len)) => Piece::Text(TokenKind::Sign(sign), len),
+        None => Piece::Nothing,
+    }
+}
+
 // The bytes before the first `*/`.
 fn close_of(bytes: &[u8]) -> Option<usize>
     ensures found { IfSome result (ClosesFirst bytes.now) }
@@ -108,34 +137,5 @@ fn number_at(rest: &[u8]) -> Piece
     match whole_of(&rest[..digits]) {
         Some(n) => Piece::Text(TokenKind::Whole(n), digits),
         None => Piece::TooLarge,
-    }
-}
-
-/// What stands at the front of these bytes.
-pub fn piece_at(rest: &[u8]) -> Piece
-    requires { 0 < length rest.now }
-    ensures { IsPieceAt rest.now result }
-{
-    let first = rest[0];
-    if is_blank(first) {
-        return Piece::Gap(1);
-    }
-    if is_letter(first) {
-        let len = word_len(rest);
-        let kind = match word_of(&rest[..len]) {
-            Some(word) => TokenKind::Reserved(word),
-            None => TokenKind::Name,
-        };
-        return Piece::Text(kind, len);
-    }
-    if first.is_ascii_digit() {
-        return number_at(rest);
-    }
-    if let Some(piece) = comment_at(rest) {
-        return piece;
-    }
-    match sign_at(rest) {
-        Some((sign, len)) => Piece::Text(TokenKind::Sign(sign), len),
-        None => Piece::Nothing,
     }
 }

@@ -42,6 +42,17 @@ const WORDS: [&str; 36] = [
     "true",
 ];
 
+// The place of a reserved word in the list of reserved words.
+pub fn word_of(text: &[u8]) -> Option<u8>
+    ensures { result ≡ place_in reserved_words text.now }
+{
+    let table: [&str; 36] = WORDS;
+    match place_in(&table, text) {
+        Some(place) => Some(place as u8),
+        None => None,
+    }
+}
+
 // The place of the text in the table.
 fn place_in(table: &[&str], text: &[u8]) -> Option<usize>
     ensures { result ≡ place_in (map (λ entry. entry.now) table.now) text.now }
@@ -52,15 +63,4 @@ fn place_in(table: &[&str], text: &[u8]) -> Option<usize>
         }
     }
     None
-}
-
-// The place of a reserved word in the list of reserved words.
-pub fn word_of(text: &[u8]) -> Option<u8>
-    ensures { result ≡ place_in reserved_words text.now }
-{
-    let table: [&str; 36] = WORDS;
-    match place_in(&table, text) {
-        Some(place) => Some(place as u8),
-        None => None,
-    }
 }

@@ -5,9 +5,9 @@ use Rattle.ar_base.proofs.Standing.{stands_one}
 use Rattle.domains.specs.declared.Value.{Value}
 use Rattle.ar_meaning.specs.Systems.{Variable, Net}
 use Rattle.ar_meaning.specs.Facts.{Allows, HasValue, HasStateValue}
-use Rattle.ar_meaning.specs.FactsInside.{AreKeyed, AreNumbered}
+use Rattle.ar_meaning.specs.FactsInside.{AreKeyed, AreNumberedVariables}
 
-module _ (net : Net ℕ) (numbered : AreNumbered net) where
+module _ (net : Net ℕ) (numbered : AreNumberedVariables net) where
   pub keyed : AreKeyed net
   keyed = record { one = λ m n x y s r e. sym (numbered.key m x s) ∙ (e ∙ numbered.key n y r) }
 

@@ -2,9 +2,9 @@
 use Rattle.std.proofs.Common.{◌≡◌, ℕ, Bool, List, sym, ◌∙◌, subst}
 use Rattle.ar_base.specs.Lists.{Stands, Along}
 use Rattle.ar_base.proofs.Standing.{stands_one}
-use Rattle.typed_expr.specs.PairsInside.{turned}
+use Rattle.typed_expr.specs.PairsInside.{turned_pairs}
 use Rattle.ar_meaning.specs.Systems.{Variable, Transition, Net, System}
-use Rattle.ar_meaning.specs.FactsInside.{AreKeyed, AreNumbered}
+use Rattle.ar_meaning.specs.FactsInside.{AreKeyed, AreNumberedVariables}
 use Rattle.ar_meaning.specs.Expand.{EventDeclaration, Member}
 use Rattle.ar_meaning.specs.ExpandImage.{Part_renames, transitions, synchronise, Declared_renames}
 use Rattle.ar_meaning.specs.ExpandImageInside.{Member_renames}
@@ -30,7 +30,7 @@ flat_image things sys flat f = record {
 }
 
 pub flat_back : {V : Type 0} (things : List V) (sys : System V) (flat : System ℕ) → IsFlatOf things sys flat
-    → IsImage (turned (IsNumber things)) flat sys
+    → IsImage (turned_pairs (IsNumber things)) flat sys
 flat_back things sys flat f = image_turned (IsNumber things) (flat_image things sys flat f)
 
 pub names_back : (a b : Naming) → NameAlike a b → NameAlike b a
@@ -57,7 +57,7 @@ keyed_there same here there image k =
 
 -- where each key stands at its variable's place, each number is that of its variable
 pub numbers_there : {V : Type 0} (things : List V) (sys : System V) (flat : System ℕ) → IsFlatOf things sys flat
-    → ((n : ℕ) (x : Variable V) → Stands sys.net.variables n x → Stands things n x.key) → AreNumbered flat.net
+    → ((n : ℕ) (x : Variable V) → Stands sys.net.variables n x → Stands things n x.key) → AreNumberedVariables flat.net
 numbers_there things sys flat f k = record {
   key = λ n y s.
       let p = partner (flat_back things sys flat f).net.variables n y s in
@@ -65,7 +65,7 @@ numbers_there things sys flat f k = record {
 }
 
 pub numbers_back : {V : Type 0} (things : List V) (sys : System V) (flat : System ℕ) → IsFlatOf things sys flat
-    → AreNumbered flat.net → (n : ℕ) (x : Variable V) → Stands sys.net.variables n x → Stands things n x.key
+    → AreNumberedVariables flat.net → (n : ℕ) (x : Variable V) → Stands sys.net.variables n x → Stands things n x.key
 numbers_back things sys flat f k n x s =
     let p = partner f.variables n x s in
     subst (λ m. Stands things m x.key) (k.key n p.item p.stands) p.related.key

@@ -8,7 +8,7 @@ use Rattle.typed_expr.specs.Values.{is_related}
 use Rattle.typed_expr.specs.declared.expr.Relation.TheVariants.{Equal}
 use Rattle.typed_expr.specs.declared.expr.Expr.{Expr, out-Expr}
 use Rattle.typed_expr.specs.declared.expr.Expr.TheOpen as form
-use Rattle.ar_meaning.specs.Cases.{IsConstant, IsVariable, IsNot, IsEither, IsEqual, IsClosed, closed}
+use Rattle.ar_meaning.specs.Cases.{IsConstantValue, IsPlainVariable, IsNegation, IsEither, IsEqual, IsSwitchClosed, closed}
 
 module _ (P : ℕ → Value → Type 0) where
   at_constant : (c v : Value) → Yields P (form.Constant c) v → v ≡ c
@@ -42,25 +42,25 @@ module _ (P : ℕ → Value → Type 0) where
       → Yields P (out-Expr ℕ a) v × Yields P (out-Expr ℕ b) v
   all_of_two a b v (one_and d (one_and e none)) = (d, e)
 
-  pub constant_is : (e : Expr ℕ) (c v : Value) → IsConstant e c → Yields P (out-Expr ℕ e) v → v ≡ c
+  pub constant_is : (e : Expr ℕ) (c v : Value) → IsConstantValue e c → Yields P (out-Expr ℕ e) v → v ≡ c
   constant_is e c v i d = at_constant c v (subst (λ z. Yields P z v) i d)
 
-  pub constant_yields : (e : Expr ℕ) (c : Value) → IsConstant e c → Yields P (out-Expr ℕ e) c
+  pub constant_yields : (e : Expr ℕ) (c : Value) → IsConstantValue e c → Yields P (out-Expr ℕ e) c
   constant_yields e c i = subst (λ z. Yields P z c) (sym i) constant
 
-  pub variable_is : (e : Expr ℕ) (n : ℕ) (v : Value) → IsVariable e n → Yields P (out-Expr ℕ e) v → P n v
+  pub variable_is : (e : Expr ℕ) (n : ℕ) (v : Value) → IsPlainVariable e n → Yields P (out-Expr ℕ e) v → P n v
   variable_is e n v i d = at_variable n v (subst (λ z. Yields P z v) i d)
 
-  pub variable_yields : (e : Expr ℕ) (n : ℕ) (v : Value) → IsVariable e n → P n v → Yields P (out-Expr ℕ e) v
+  pub variable_yields : (e : Expr ℕ) (n : ℕ) (v : Value) → IsPlainVariable e n → P n v → Yields P (out-Expr ℕ e) v
   variable_yields e n v i h = subst (λ z. Yields P z v) (sym i) (variable h)
 
-  pub not_is : (e a : Expr ℕ) (v : Value) → IsNot e a → Yields P (out-Expr ℕ e) v
+  pub not_is : (e a : Expr ℕ) (v : Value) → IsNegation e a → Yields P (out-Expr ℕ e) v
       → (b : Bool) × Yields P (out-Expr ℕ a) (Truth b) × (v ≡ Truth (not b))
   not_is e a v i d =
       let r = at_not i.operand v (subst (λ z. Yields P z v) i.is d) in
       (r.0, subst (λ z. Yields P (out-Expr ℕ z) (Truth r.0)) i.is_operand r.1, r.2)
 
-  pub not_yields : (e a : Expr ℕ) (b : Bool) → IsNot e a → Yields P (out-Expr ℕ a) (Truth b)
+  pub not_yields : (e a : Expr ℕ) (b : Bool) → IsNegation e a → Yields P (out-Expr ℕ a) (Truth b)
       → Yields P (out-Expr ℕ e) (Truth (not b))
   not_yields e a b i d =
       subst (λ z. Yields P z (Truth (not b))) (sym i.is)
@@ -93,14 +93,14 @@ module _ (P : ℕ → Value → Type 0) where
       )
 
   -- whether the switch is closed
-  pub closed_is : (e : Expr ℕ) (v : Value) → IsClosed e → Yields P (out-Expr ℕ e) v
+  pub closed_is : (e : Expr ℕ) (v : Value) → IsSwitchClosed e → Yields P (out-Expr ℕ e) v
       → (x : Value) × P 0 x × (v ≡ Truth (is_related Equal x closed))
   closed_is e v i d =
       let r = equal_is e i.switch i.value v i.is d in
       let k : r.1 ≡ closed = constant_is i.value closed r.1 i.is_value r.3 in
       (r.0, variable_is i.switch 0 r.0 i.is_switch r.2, subst (λ z. v ≡ Truth (is_related Equal r.0 z)) k r.4)
 
-  pub closed_yields : (e : Expr ℕ) (x : Value) → IsClosed e → P 0 x
+  pub closed_yields : (e : Expr ℕ) (x : Value) → IsSwitchClosed e → P 0 x
       → Yields P (out-Expr ℕ e) (Truth (is_related Equal x closed))
   closed_yields e x i h =
       let l = subst (λ z. Yields P (out-Expr ℕ z) x) (sym i.is.is_left) (variable_yields i.switch 0 x i.is_switch h) in

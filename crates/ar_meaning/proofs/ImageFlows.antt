@@ -17,7 +17,7 @@ use Rattle.domains.specs.declared.Value.{Value}
 use Rattle.typed_expr.specs.declared.expr.Expr.{Expr}
 use Rattle.ar_meaning.proofs.Least.{least, closed}
 use Rattle.typed_expr.proofs.Renaming.{carries}
-use Rattle.typed_expr.specs.PairsInside.{turned}
+use Rattle.typed_expr.specs.PairsInside.{turned_pairs}
 use Rattle.ar_meaning.proofs.ImageTurned.{net_turned, way_turned}
 
 -- the item at the same place of the other list
@@ -225,7 +225,7 @@ module _ {V W : Type 0} (same : V → W → Type 0) (A : Net V) (B : Net W) (ima
         value = h.value;
         yields = carries V W (HasValue A t) (HasValue B t) same go h.yields r.value;
         differs = λ d.
-            h.differs (value_there (turned same) B A (net_turned same image) t b.target a.target h.value r.target d);
+            h.differs (value_there (turned_pairs same) B A (net_turned same image) t b.target a.target h.value r.target d);
       }
 
   clashes_there : (P : V → Value → Type 0) (Q : W → Value → Type 0)
@@ -253,31 +253,31 @@ module _ {V W : Type 0} (same : V → W → Type 0) (A : Net V) (B : Net W) (ima
   flows_there {t = t} {o = o} h =
       let back = net_turned same image in
       let no_two =
-      none_there image.variables back.variables (two_there same A B image t) (two_there (turned same) B A back t) in
+      none_there image.variables back.variables (two_there same A B image t) (two_there (turned_pairs same) B A back t) in
       let no_outside =
       none_there image.variables back.variables (outside_there same A B image t)
-      (outside_there (turned same) B A back t) in
+      (outside_there (turned_pairs same) B A back t) in
       let on =
       λ (x : V) (y : W) (v : Value) (s : same x y) (d : FactOf A t x v). fact_there same A B image t x y v s d in
       let off =
       λ (y : W) (x : V) (v : Value) (s : same x y) (d : FactOf B t y v). fact_there
-      (turned same) B A back t y x v s d in
+      (turned_pairs same) B A back t y x v s d in
       elim h as (λ k _. Flows B t k) [
         | two f ↦
             two
             (first_there image.variables back.variables (two_there same A B image t)
-            (two_there (turned same) B A back t) f)
+            (two_there (turned_pairs same) B A back t) f)
         | outside n f ↦
             outside (no_two n)
             (first_there image.variables back.variables (outside_there same A B image t)
-            (outside_there (turned same) B A back t) f)
+            (outside_there (turned_pairs same) B A back t) f)
         | broken total n m c f ↦ broken total (no_two n) (no_outside m) (completes_there on off image.variables c)
             (first_there image.assertions back.assertions (broken_there same A B image total)
-            (broken_there (turned same) B A back total) f)
+            (broken_there (turned_pairs same) B A back total) f)
         | all_hold {total = total} n m c f ↦
             all_hold (no_two n) (no_outside m) (completes_there on off image.variables c)
             (none_there image.assertions back.assertions (broken_there same A B image total)
-            (broken_there (turned same) B A back total) f)
+            (broken_there (turned_pairs same) B A back total) f)
       ]
 
   pub step_there : {t : List Value} {v : Way V} {w : Way W} {o : Answer} → Way_renames same v w → Step A t v o
@@ -288,7 +288,7 @@ module _ {V W : Type 0} (same : V → W → Type 0) (A : Net V) (B : Net W) (ima
       λ (x : V) (y : W) (d : Value) (s : same x y) (h : HasValue A t x d). value_there same A B image t x y d s h in
       let value_off =
       λ (y : W) (x : V) (d : Value) (s : same x y) (h : HasValue B t y d). value_there
-      (turned same) B A back t y x d s h in
+      (turned_pairs same) B A back t y x d s h in
       let P = Effects (HasValue A t) v in
       let Q = Effects (HasValue B t) w in
       let on =
@@ -296,27 +296,27 @@ module _ {V W : Type 0} (same : V → W → Type 0) (A : Net V) (B : Net W) (ima
       (HasValue B t) same value_on image.one q s h in
       let off =
       λ (y : W) (x : V) (d : Value) (s : same x y) (h : Q y d). effects_there W V (HasValue B t) (HasValue A t)
-      (turned same) value_off back.one (way_turned same q) s h in
+      (turned_pairs same) value_off back.one (way_turned same q) s h in
       let can : Can (HasValue A t) v → Can (HasValue B t) w =
       can_there V W (HasValue A t) (HasValue B t) same value_on image.one q in
       let can_back : Can (HasValue B t) w → Can (HasValue A t) v =
-      can_there W V (HasValue B t) (HasValue A t) (turned same) value_off back.one (way_turned same q) in
+      can_there W V (HasValue B t) (HasValue A t) (turned_pairs same) value_off back.one (way_turned same q) in
       let no_clash =
       none_there image.variables back.variables (clashes_there same A B image P Q on)
-      (clashes_there (turned same) B A back Q P off) in
+      (clashes_there (turned_pairs same) B A back Q P off) in
       let no_leave =
       none_there image.variables back.variables (leaves_there same A B image P Q on)
-      (leaves_there (turned same) B A back Q P off) in
+      (leaves_there (turned_pairs same) B A back Q P off) in
       elim h as (λ k _. Step B t w k) [
         | not_enabled n ↦ not_enabled (λ c. n (can_back c))
         | clash c f ↦
             clash (can c)
             (first_there image.variables back.variables (clashes_there same A B image P Q on)
-            (clashes_there (turned same) B A back Q P off) f)
+            (clashes_there (turned_pairs same) B A back Q P off) f)
         | range c n f ↦
             range (can c) (no_clash n)
             (first_there image.variables back.variables (leaves_there same A B image P Q on)
-            (leaves_there (turned same) B A back Q P off) f)
+            (leaves_there (turned_pairs same) B A back Q P off) f)
         | flow u c n m r f ↦
             flow u (can c) (no_clash n) (no_leave m) (receives_there on off image.variables r) (flows_there f)
         | moves u c n m r f ↦

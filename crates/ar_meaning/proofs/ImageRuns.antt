@@ -10,7 +10,7 @@ use Rattle.ar_meaning.specs.Flows.{Flows, Fails, Total}
 use Rattle.ar_meaning.specs.Runs.{Label, IsWay, Command, Moment, Ways_listed, can, cannot, Listed, visible, hidden, Goes, ends, fires, fails, back, no_step, shows, lists, Runs, starts, start_fails, first_values}
 use Rattle.ar_meaning.specs.Runs as r
 use Rattle.domains.specs.declared.Value.{Value}
-use Rattle.typed_expr.specs.PairsInside.{turned}
+use Rattle.typed_expr.specs.PairsInside.{turned_pairs}
 use Rattle.ar_meaning.proofs.ImageTurned.{net_turned, way_turned}
 use Rattle.ar_meaning.proofs.ImageFlows.{partner, can_there, value_there, flows_there, step_there}
 
@@ -27,8 +27,8 @@ module _ {V W : Type 0} (same : V → W → Type 0) (A : System V) (B : System W
   ways_listed_there t (l.one_and q qs) (cannot n d) =
       let behind = net_turned same image.net in
       cannot
-      (λ c. n (can_there W V (HasValue B.net t) (HasValue A.net t) (turned same)
-      (λ y x d s h. value_there (turned same) B.net A.net behind t y x d s h) behind.one (way_turned same q) c))
+      (λ c. n (can_there W V (HasValue B.net t) (HasValue A.net t) (turned_pairs same)
+      (λ y x d s h. value_there (turned_pairs same) B.net A.net behind t y x d s h) behind.one (way_turned same q) c))
       (ways_listed_there t qs d)
 
   pub listed_there : (t : List Value) {vs : List (Event V)} {ws : List (Event W)} {e : ℕ} {ls : List Label}

@@ -11,7 +11,7 @@ use Rattle.ar_meaning.specs.ExpandInside.{AreKeyedEvents}
 use Rattle.ar_meaning.specs.ExpandImage.{Part_renames, Member_along, transitions, synchronise, Declared_along, Declared_renames}
 use Rattle.ar_meaning.specs.Image.{Trees_along, leaves, joints, Branches_along, no_branch, branch, Transition_renames, Event_renames}
 use Rattle.ar_meaning.specs.TraceText.{ways_of}
-use Rattle.typed_expr.specs.PairsInside.{turned}
+use Rattle.typed_expr.specs.PairsInside.{turned_pairs}
 use Rattle.ar_meaning.proofs.ImageTurned.{along_turned, transition_turned, event_turned}
 use Rattle.ar_meaning.proofs.ImageFlows.{partner}
 
@@ -153,16 +153,16 @@ module _ {L M E F : Type 0} (same : L → M → Type 0) (event_same : E → F �
 
 -- turned round
 module _ {L M E F : Type 0} (same : L → M → Type 0) (event_same : E → F → Type 0) where
-  part_turned : (p : Bool × E) (q : Bool × F) → Part_renames event_same p q → Part_renames (turned event_same) q p
+  part_turned : (p : Bool × E) (q : Bool × F) → Part_renames event_same p q → Part_renames (turned_pairs event_same) q p
   part_turned p q r = record { must = sym r.must; key = r.key }
 
   member_turned : (m : Member L E) (n : Member M F) → Member_along same event_same m n
-      → Member_along (turned same) (turned event_same) n m
+      → Member_along (turned_pairs same) (turned_pairs event_same) n m
   member_turned m n (transitions q) = transitions q
   member_turned m n (synchronise q) = synchronise (along_turned part_turned q)
 
   pub declared_turned : (d : EventDeclaration L E) (e : EventDeclaration M F) → Declared_along same event_same d e
-      → Declared_along (turned same) (turned event_same) e d
+      → Declared_along (turned_pairs same) (turned_pairs event_same) e d
   declared_turned d e r = record {
     key = r.key;
     unit = sym r.unit;
@@ -171,11 +171,11 @@ module _ {L M E F : Type 0} (same : L → M → Type 0) (event_same : E → F �
   }
 
   mutual
-    pub trees_turned : {t : Tree L} {u : Tree M} → Trees_along (turned same) u t → Trees_along same t u
+    pub trees_turned : {t : Tree L} {u : Tree M} → Trees_along (turned_pairs same) u t → Trees_along same t u
     trees_turned (leaves q) = leaves q
     trees_turned (joints q) = joints (branches_turned q)
 
-    pub branches_turned : {bs : Branches L} {cs : Branches M} → Branches_along (turned same) cs bs
+    pub branches_turned : {bs : Branches L} {cs : Branches M} → Branches_along (turned_pairs same) cs bs
         → Branches_along same bs cs
     branches_turned no_branch = no_branch
     branches_turned (branch q qs) = branch (trees_turned q) (branches_turned qs)
@@ -187,7 +187,7 @@ module _ {L M E F : Type 0} (same : L → M → Type 0) (event_same : E → F �
       → (ts : List (Tree L)) × Ways ds e ts × Along (Trees_along same) ts us
   ways_back ds es related single s w =
       let r =
-      ways_along (turned same) (turned event_same) es ds (along_turned declared_turned related)
+      ways_along (turned_pairs same) (turned_pairs event_same) es ds (along_turned declared_turned related)
       (λ z x y p q. single x y z p q) s w in
       (r.0, r.1, along_turned (λ u t q. trees_turned q) r.2)
 
@@ -195,7 +195,7 @@ module _ {L M E F : Type 0} (same : L → M → Type 0) (event_same : E → F �
       event_same) ds es → ((x y : E) (z : F) → event_same x z → event_same y z → x ≡ y)
       → {e : E} {f : F} {k : ℕ} → event_same e f → LeadsBack es f k → LeadsBack ds e k
   leads_back ds es related single s h =
-      leads_there (turned same) (turned event_same) es ds (along_turned declared_turned related)
+      leads_there (turned_pairs same) (turned_pairs event_same) es ds (along_turned declared_turned related)
       (λ z x y p q. single x y z p q) s h
 
 -- events of systems, here and there
@@ -223,18 +223,18 @@ pub events_back : {V W E F : Type 0} (same : V → W → Type 0) (event_same : E
     → {ws : List (Event W)} → Along (IsExpanded es) es ws
     → (vs : List (Event V)) × Along (IsExpanded ds) ds vs × Along (Event_renames same) vs ws
 events_back {V = V} {W = W} {E = E} {F = F} same event_same ds es related single x =
-    let behind : Along (Declared_renames (turned same) (turned event_same)) es ds = along_turned back related in
-    let r = events_along (turned same) (turned event_same) es ds behind (λ z x y p q. single x y z p q) behind x in
-    (r.0, r.1, along_turned (event_turned (turned same)) r.2)
+    let behind : Along (Declared_renames (turned_pairs same) (turned_pairs event_same)) es ds = along_turned back related in
+    let r = events_along (turned_pairs same) (turned_pairs event_same) es ds behind (λ z x y p q. single x y z p q) behind x in
+    (r.0, r.1, along_turned (event_turned (turned_pairs same)) r.2)
   where
     member_back : (m : Member (Transition V) E) (n : Member (Transition W) F)
         → Member_along (Transition_renames same) event_same m n
-        → Member_along (Transition_renames (turned same)) (turned event_same) n m
+        → Member_along (Transition_renames (turned_pairs same)) (turned_pairs event_same) n m
     member_back m n (transitions {d = d} {e = e} q) = transitions (transition_turned same d e q)
     member_back m n (synchronise q) = synchronise (along_turned (λ p q r. record { must = sym r.must; key = r.key }) q)
 
     back : (d : EventDeclaration (Transition V) E) (e : EventDeclaration (Transition W) F) → Declared_renames same
-        event_same d e → Declared_renames (turned same) (turned event_same) e d
+        event_same d e → Declared_renames (turned_pairs same) (turned_pairs event_same) e d
     back d e r = record {
       key = r.key;
       unit = sym r.unit;

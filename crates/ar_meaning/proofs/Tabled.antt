@@ -7,7 +7,7 @@ use Rattle.typed_expr.proofs.Facts.{yields_more}
 use Rattle.typed_expr.specs.declared.expr.Expr.{out-Expr}
 use Rattle.ar_meaning.specs.Systems.{Assign, Variable, Net}
 use Rattle.ar_meaning.specs.Facts.{PassesConditions, given, Allows, HasValue, HasStateValue, FactOf}
-use Rattle.ar_meaning.specs.FactsInside.{AreNumbered}
+use Rattle.ar_meaning.specs.FactsInside.{AreNumberedVariables}
 use Rattle.ar_meaning.specs.Flows.{HasTwo, IsOutside, Completes, Flows, Total, all_hold}
 use Rattle.ar_meaning.proofs.ByNumber.{value_at, given_from, allowed_from}
 use Rattle.ar_meaning.proofs.Least.{least, closed, passes_more}
@@ -51,7 +51,7 @@ Closes net table =
     → Known table a.target v) 0 net.assertions
 
 module _ (net : Net ℕ) (numbered : AllFrom (λ n (x : Variable ℕ). x.key ≡ n) 0 net.variables) where
-  pub is_numbered : AreNumbered net
+  pub is_numbered : AreNumberedVariables net
   is_numbered = record {
     key = λ k x s. at_place (λ n (x : Variable ℕ). x.key ≡ n) 0 net.variables numbered k k x s (omega arith);
   }

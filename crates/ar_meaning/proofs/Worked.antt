@@ -17,7 +17,7 @@ use Rattle.ar_meaning.specs.Ways.{Can, guard_holds, all_musts, some_may, this, l
 use Rattle.ar_meaning.specs.Ways as m
 use Rattle.ar_meaning.specs.Steps.{changed, kept, Step, Next, Refused, NotEnabled, not_enabled, moves}
 use Rattle.ar_meaning.specs.Steps as steps
-use Rattle.ar_meaning.specs.Cases.{truths, closed, opened, switches, state_of, flow_of, sets, sets_where, IsVariable, IsRing, IsQuarrel, AreTurns, follower, ring, quarrel, pair, turns, jointly}
+use Rattle.ar_meaning.specs.Cases.{truths, closed, opened, switches, state_of, flow_of, sets, sets_where, IsPlainVariable, IsRing, IsQuarrel, AreTurns, follower, ring, quarrel, pair, turns, jointly}
 use Rattle.ar_meaning.proofs.ByNumber.{value_at, value_from}
 use Rattle.ar_meaning.proofs.Tabled.{Known, Starts, Closes, flows, in_list, is_numbered, given_fact, added_fact, at_most}
 use Rattle.ar_meaning.proofs.Forms.{constant_is, constant_yields, variable_is, variable_yields, not_yields, either_is, second_yields, closed_is, closed_yields}
@@ -35,7 +35,7 @@ in_truths false = (0, omega arith, refl)
 in_truths_as : (b : Bool) (v : Value) → Truth b ≡ v → Contains truths v
 in_truths_as b v e = subst (λ z. Contains truths z) e (in_truths b)
 
-pub follows : (e : Expr ℕ) → IsVariable e 0 → (s f : Bool)
+pub follows : (e : Expr ℕ) → IsPlainVariable e 0 → (s f : Bool)
     → Flows (follower e) (Truth s ∷ Truth f ∷ []) (Total (Truth s ∷ Truth s ∷ []))
 follows e i s f =
     let net : Net ℕ = follower e in
@@ -279,7 +279,7 @@ turn_gives P guard e n x v (acts a o p d) = go o.place o.stands
         (ap (λ z. z.target) i, subst (λ z. Yields P (out-Expr ℕ z.value) v) (sym i) d)
     go (suc k) s = cc
 
-turn_can : (P : ℕ → Value → Type 0) (guard e : Expr ℕ) (n m : ℕ) → IsVariable guard m → Can P (turns guard n e)
+turn_can : (P : ℕ → Value → Type 0) (guard e : Expr ℕ) (n m : ℕ) → IsPlainVariable guard m → Can P (turns guard n e)
     → P m (Truth true)
 turn_can P guard e n m i (guard_holds d) = variable_is P guard m (Truth true) i d
 

@@ -43,15 +43,15 @@ abbrev pub sets_where : Expr ℕ → Bool → ℕ → Expr ℕ → Assign ℕ
 sets_where test b n e = record { target = n; conditions = (test, b) ∷ []; value = e }
 
 -- the expression is this constant
-abbrev pub IsConstant : Expr ℕ → Value → Type 0
-IsConstant e v = out-Expr ℕ e ≡ form.Constant v
+abbrev pub IsConstantValue : Expr ℕ → Value → Type 0
+IsConstantValue e v = out-Expr ℕ e ≡ form.Constant v
 
 -- the expression is this variable
-abbrev pub IsVariable : Expr ℕ → ℕ → Type 0
-IsVariable e n = out-Expr ℕ e ≡ form.Variable n
+abbrev pub IsPlainVariable : Expr ℕ → ℕ → Type 0
+IsPlainVariable e n = out-Expr ℕ e ≡ form.Variable n
 
 -- the expression is the opposite of a
-pub record IsNot (e a : Expr ℕ) : Type 0 where
+pub record IsNegation (e a : Expr ℕ) : Type 0 where
   pub operand : Box (Expr ℕ) Global
   pub is : out-Expr ℕ e ≡ form.Not operand
   pub is_operand : operand.value ≡ a
@@ -71,12 +71,12 @@ pub record IsEqual (e a b : Expr ℕ) : Type 0 where
   pub is_right : right.value ≡ b
 
 -- the switch, variable 0, is closed
-pub record IsClosed (e : Expr ℕ) : Type 0 where
+pub record IsSwitchClosed (e : Expr ℕ) : Type 0 where
   pub switch : Expr ℕ
   pub value : Expr ℕ
   pub is : IsEqual e switch value
-  pub is_switch : IsVariable switch 0
-  pub is_value : IsConstant value closed
+  pub is_switch : IsPlainVariable switch 0
+  pub is_value : IsConstantValue value closed
 
 -- flow 1 follows state 0
 abbrev pub follower : Expr ℕ → Net ℕ
@@ -98,10 +98,10 @@ pub record IsRing (either second third : Expr ℕ) : Type 0 where
   pub last : Expr ℕ
   pub test : Expr ℕ
   pub is_either : IsEither either last test
-  pub is_last : IsVariable last 3
-  pub is_test : IsClosed test
-  pub is_second : IsVariable second 1
-  pub is_third : IsVariable third 2
+  pub is_last : IsPlainVariable last 3
+  pub is_test : IsSwitchClosed test
+  pub is_second : IsPlainVariable second 1
+  pub is_third : IsPlainVariable third 2
 
 -- where the switch is not closed flow 1 is true and also the opposite of flow 2, else it is false, and flow 2 follows
 -- flow 1
@@ -115,12 +115,12 @@ quarrel test on opposite off first = record {
 -- the expressions of the quarrel
 pub record IsQuarrel (test on opposite off first : Expr ℕ) : Type 0 where
   pub second : Expr ℕ
-  pub is_test : IsClosed test
-  pub is_on : IsConstant on (Truth true)
-  pub is_opposite : IsNot opposite second
-  pub is_second : IsVariable second 2
-  pub is_off : IsConstant off (Truth false)
-  pub is_first : IsVariable first 1
+  pub is_test : IsSwitchClosed test
+  pub is_on : IsConstantValue on (Truth true)
+  pub is_opposite : IsNegation opposite second
+  pub is_second : IsPlainVariable second 2
+  pub is_off : IsConstantValue off (Truth false)
+  pub is_first : IsPlainVariable first 1
 
 -- two states
 abbrev pub pair : Net ℕ
@@ -136,6 +136,6 @@ jointly first v second w = Joint (Branch first v (Branch second w Empty))
 
 -- each guard is one of the two states, and the value is false
 pub record AreTurns (first second off : Expr ℕ) : Type 0 where
-  pub is_first : IsVariable first 0
-  pub is_second : IsVariable second 1
-  pub is_off : IsConstant off (Truth false)
+  pub is_first : IsPlainVariable first 0
+  pub is_second : IsPlainVariable second 1
+  pub is_off : IsConstantValue off (Truth false)

@@ -9,5 +9,5 @@ pub record AreKeyed {V : Type 0} (net : Net V) : Type 0 where
   pub one : (m n : ℕ) (x y : Variable V) → Stands net.variables m x → Stands net.variables n y → x.key ≡ y.key → m ≡ n
 
 -- what stands for a variable is its number
-pub record AreNumbered (net : Net ℕ) : Type 0 where
+pub record AreNumberedVariables (net : Net ℕ) : Type 0 where
   pub key : (n : ℕ) (x : Variable ℕ) → Stands net.variables n x → x.key ≡ n

@@ -8,6 +8,6 @@ use Rattle.ar_meaning.specs.Systems.{Assign}
 use Rattle.ar_meaning.specs.Facts.{PassesConditions}
 
 -- what an assignment that is reached yields, or that it is not reached
-abbrev pub Reaches : (ℕ → Value → Type 0) → Assign ℕ → Option (List Value) → Type 0
-Reaches facts a None = PassesConditions facts a.conditions → ⊥
-Reaches facts a (Some set) = PassesConditions facts a.conditions × HasExactly set (Yields facts (out-Expr ℕ a.value))
+abbrev pub YieldsWhereReached : (ℕ → Value → Type 0) → Assign ℕ → Option (List Value) → Type 0
+YieldsWhereReached facts a None = PassesConditions facts a.conditions → ⊥
+YieldsWhereReached facts a (Some set) = PassesConditions facts a.conditions × HasExactly set (Yields facts (out-Expr ℕ a.value))

@@ -7,7 +7,7 @@ ghost use Rattle.typed_expr.specs.Yields.{Yields};
 ghost use Rattle.typed_expr.specs.declared.expr.Expr.{out-Expr};
 ghost use Rattle.ar_meaning.specs.Systems.{Assign, Variable, Net};
 ghost use Rattle.ar_meaning.specs.Facts.{PassesConditions, Allows, HasValue, HasStateValue, FactOf};
-ghost use Rattle.ar_meaning.specs.FactsInside.{AreKeyed, AreNumbered};
+ghost use Rattle.ar_meaning.specs.FactsInside.{AreKeyed, AreNumberedVariables};
 ghost use Rattle.ar_meaning.specs.Flows.{Flows, Outcome};
 
 /// Laws of facts, and of what flows and variables are read from.
@@ -35,14 +35,14 @@ pub fn fact_laws<V>()
     ensures more_facts { (net : Net V) (t u : List Value)
         → ((x : V) (v : Value) → HasStateValue net t x v → HasStateValue net u x v) → (x : V) (v : Value)
         → FactOf net t x v → FactOf net u x v }
-    ensures keyed_by_number { (net : Net ℕ) → AreNumbered net → AreKeyed net }
-    ensures values_by_number { (net : Net ℕ) → AreNumbered net
+    ensures keyed_by_number { (net : Net ℕ) → AreNumberedVariables net → AreKeyed net }
+    ensures values_by_number { (net : Net ℕ) → AreNumberedVariables net
         → (t : List Value) (n : ℕ) (x : Variable ℕ) (v : Value) → Stands net.variables n x
         → (HasValue net t n v ↔ Stands t n v) }
-    ensures given_by_number { (net : Net ℕ) → AreNumbered net
+    ensures given_by_number { (net : Net ℕ) → AreNumberedVariables net
         → (t : List Value) (n : ℕ) (x : Variable ℕ) (v : Value) → Stands net.variables n x
         → (HasStateValue net t n v ↔ ((x.is_state ≡ true) × Stands t n v)) }
-    ensures allowed_by_number { (net : Net ℕ) → AreNumbered net → (n : ℕ) (x : Variable ℕ) (v : Value)
+    ensures allowed_by_number { (net : Net ℕ) → AreNumberedVariables net → (n : ℕ) (x : Variable ℕ) (v : Value)
         → Stands net.variables n x → (Allows net n v ↔ Contains x.domain v) }
     ensures flows_read_states { (net : Net V) (t u : List Value) → length t ≡ length net.variables
         → length u ≡ length net.variables

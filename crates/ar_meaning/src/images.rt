@@ -5,7 +5,7 @@ ghost use Rattle.domains.specs.declared.Value.{Value};
 ghost use Rattle.ar_base.specs.Lists.{Stands, Along, AreDifferent};
 ghost use Rattle.ar_meaning.specs.Systems.{Variable, Net, System, Event, Transition, Way, Tree};
 ghost use Rattle.ar_meaning.specs.Facts.{HasValue, FactOf};
-ghost use Rattle.ar_meaning.specs.FactsInside.{AreKeyed, AreNumbered};
+ghost use Rattle.ar_meaning.specs.FactsInside.{AreKeyed, AreNumberedVariables};
 ghost use Rattle.ar_meaning.specs.Flows.{Flows, Outcome};
 ghost use Rattle.ar_meaning.specs.Ways.{Can, Effects};
 ghost use Rattle.ar_meaning.specs.Steps.{Step, Answer};
@@ -56,7 +56,7 @@ pub fn flat_systems<V, E>()
     ensures numbers { (things : List V) (sys : System V) (flat : System ℕ)
         → IsFlatOf things sys flat
         → ((n : ℕ) (x : Variable V) → Stands sys.net.variables n x → Stands things n x.key)
-        ↔ AreNumbered flat.net }
+        ↔ AreNumberedVariables flat.net }
     ensures declared_ways { (things : List V) (keys : List E) (ds : List (EventDeclaration (Transition V) E))
         (es : List (EventDeclaration (Transition ℕ) ℕ)) → AreFlatOf things keys ds es → (e : E) (n : ℕ)
         → Stands keys n e → (vs : List (Way V)) → Ways ds e vs

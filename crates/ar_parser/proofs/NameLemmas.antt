@@ -28,7 +28,7 @@ use Rattle.ar_base.specs.Numbers.{NameId}
 use Rattle.expression_grammar.specs.Words.{Tokens}
 use Rattle.ar_parser.specs.Names.{IsSpelled, AreSpelled, lexeme_of}
 use Rattle.ar_parser.specs.Models.{token_of, text_of, IsNumbered, name, other, AreNamesNumbered, AreLexemes, HasFaultAt, IsPlaceOf}
-use Rattle.ar_parser.specs.Names.{fault_of}
+use Rattle.ar_parser.specs.Names.{lexical_fault}
 
 -- The bytes of names
 
@@ -363,7 +363,7 @@ pub one_fault_place : (bytes : List ℕ) (a b : Place) → HasFaultAt bytes a �
 one_fault_place bytes a b f g = one_place f.fault a b f.there
     (subst (λ (x : LexFault). IsPlaceOf x b) (fault_one bytes g.fault f.fault g.first f.first) g.there)
 
-pub lexical_told : (bytes : List ℕ) (f : LexFault) (r : ParseFault) → r ≡ fault_of f
+pub lexical_told : (bytes : List ℕ) (f : LexFault) (r : ParseFault) → r ≡ lexical_fault f
     → (f ≢ lex_fault.Memory → IsFirstFault bytes f) → r ≢ Memory → (at : Place) × (r ≡ Lex at) × HasFaultAt bytes at
 lexical_told bytes (lex_fault.Byte at) r e h =
     λ m. (at, e, record { fault = lex_fault.Byte at; first = h (λ q. absurd (cc)); there = refl })

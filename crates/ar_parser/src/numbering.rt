@@ -6,7 +6,7 @@ ghost use Rattle.ar_base.specs.declared.counts.Count.TheVariants.{ModelBytes};
 ghost use Rattle.ar_lexer.specs.declared.token.TokenKind.TheVariants.{Name};
 ghost use Rattle.ar_parser.specs.declared.fault.ParseFault.TheVariants.{Lex, Memory};
 ghost use Rattle.ar_parser.specs.Models.{token_of, IsNumbered, AreNamesNumbered, AreLexemes, HasFaultAt};
-ghost use Rattle.ar_parser.specs.Names.{IsSpelled, AreSpelled, lexeme_of, fault_of};
+ghost use Rattle.ar_parser.specs.Names.{IsSpelled, AreSpelled, lexeme_of, lexical_fault};
 
 use crate::fault::ParseFault;
 use ar_base::{NameId, Names, Place};
@@ -21,6 +21,28 @@ impl From<ar_base::Memory> for ParseFault {
     fn from(_refused: ar_base::Memory) -> Self {
         ParseFault::Memory
     }
+}
+
+/// The tokens of a text but for its end, with the numbers of their names, and the place of its end.
+pub fn lexemes(
+    alloc: Global,
+    text: &[u8],
+    names: &mut Names,
+) -> Result<(Vec<Lexeme>, Place), ParseFault>
+    requires size { length text.now ≤ limit_of ModelBytes }
+    requires empty { names.old ≡ [] }
+    ensures found { IfOk result (λ x. AreLexemes text.now x.0.items names.new x.1) }
+    ensures fault { IfErr result (λ e. e ≢ Memory
+        → (at : _) × (e ≡ Lex at) × HasFaultAt text.now at) }
+{
+    let mut all = match tokens(alloc, text) {
+        Ok(all) => all,
+        Err(fault) => return Err(lexical(fault)),
+    };
+    let end = all.pop().unwrap();
+    all.reverse();
+    let lexemes = numbered(alloc, text, all, names)?;
+    Ok((lexemes, end.at))
 }
 
 /// The number of a name's text, which joins the table, and 0 for any other token.
@@ -72,7 +94,7 @@ fn numbered(
 
 /// The refusal of a text that has no tokens.
 fn lexical(fault: LexFault) -> ParseFault
-    ensures { result ≡ fault_of fault }
+    ensures { result ≡ lexical_fault fault }
 {
     match fault {
         LexFault::Byte(at) | LexFault::OpenComment(at) | LexFault::Number(at) => ParseFault::Lex(
@@ -80,26 +102,4 @@ fn lexical(fault: LexFault) -> ParseFault
         ),
         LexFault::Memory => ParseFault::Memory,
     }
-}
-
-/// The tokens of a text but for its end, with the numbers of their names, and the place of its end.
-pub fn lexemes(
-    alloc: Global,
-    text: &[u8],
-    names: &mut Names,
-) -> Result<(Vec<Lexeme>, Place), ParseFault>
-    requires size { length text.now ≤ limit_of ModelBytes }
-    requires empty { names.old ≡ [] }
-    ensures found { IfOk result (λ x. AreLexemes text.now x.0.items names.new x.1) }
-    ensures fault { IfErr result (λ e. e ≢ Memory
-        → (at : _) × (e ≡ Lex at) × HasFaultAt text.now at) }
-{
-    let mut all = match tokens(alloc, text) {
-        Ok(all) => all,
-        Err(fault) => return Err(lexical(fault)),
-    };
-    let end = all.pop().unwrap();
-    all.reverse();
-    let lexemes = numbered(alloc, text, all, names)?;
-    Ok((lexemes, end.at))
 }

@@ -6,7 +6,7 @@ use Rattle.ar_base.specs.Texts.{text_at}
 use Rattle.ar_base.proofs.Standing.{stands_one, stands_within, at_most}
 use Rattle.ar_base.proofs.Comparing.{side}
 use Rattle.aralia_text.specs.Readings.{is_path_byte, IsPath}
-use Rattle.aralia_text.specs.Fronts.{Stops, IsAny, BeginAlike, IsRead, AreBegun, none, part, IsStuck, IsStuckIn, AreCommon, IsPathOf, event_text, HasNoEvent, IsEventPart}
+use Rattle.aralia_text.specs.Fronts.{PathStops, IsAny, BeginAlike, IsRead, AreBegun, none, part, IsStuck, IsStuckIn, AreCommon, IsPathOf, event_text, HasNoEvent, IsEventPart}
 use Rattle.aralia_text.proofs.Runs.{IsRun, run_path, run_left, path_unique, path_byte}
 use Rattle.aralia_text.proofs.Stuck.{alike_stops, stops_alike, alike_head, Compared, shorter, same, longer, compared, not_stuck}
 
@@ -17,9 +17,9 @@ text_is events e path s = ap (λ (z : _). unwrap_or z []) s
 module _ (events : List (List ℕ)) (rest : List ℕ) where
   module _ (behind run left : List ℕ) (begun : rest ≡ codes "e." ++ behind) (cut : IsRun behind run left) where
     pub event_read : (n m : ℕ) → AreDifferent events → Stands events n run → m ≡ n
-        → IsRead (IsPathOf events) (event_text events) Stops rest m left
+        → IsRead (IsPathOf events) (event_text events) PathStops rest m left
     event_read n m different stands new =
-        subst (λ (k : ℕ). IsRead (IsPathOf events) (event_text events) Stops rest k left) (sym new) (record {
+        subst (λ (k : ℕ). IsRead (IsPathOf events) (event_text events) PathStops rest k left) (sym new) (record {
           sought = record { path = run; stands = stands; is_path = run_path behind run left cut };
           joined = begun ∙ ap (λ (z : List ℕ). codes "e." ++ z)
               (cut.joined ∙ ap (λ (z : List ℕ). z ++ left) (sym (text_is events n run stands)));
@@ -61,7 +61,7 @@ module _ (events : List (List ℕ)) (rest : List ℕ) where
       is.is_path)
 
   pub event_stuck : (n : ℕ) → IsEventPart events rest n → HasNoEvent events rest
-      → IsStuck (IsPathOf events) (event_text events) Stops rest (length rest - n)
+      → IsStuck (IsPathOf events) (event_text events) PathStops rest (length rest - n)
   event_stuck n event lacks = record {
     front = take n rest;
     left = drop n rest;
@@ -81,7 +81,7 @@ module _ (events : List (List ℕ)) (rest : List ℕ) where
       not_longer a d x stop i (part b more is e) =
           true≢false (sym (inside a b d x more is (e ∙ ap (λ (z : List ℕ). z ++ more) i)) ∙ stop)
 
-      by : (a : ℕ) (back other : List ℕ) → IsPathOf events a → Stops back → BeginAlike (drop n rest) other
+      by : (a : ℕ) (back other : List ℕ) → IsPathOf events a → PathStops back → BeginAlike (drop n rest) other
           → Compared (take n rest) (event_text events a) other back → ⊥
       by a back other is stop alike (shorter d x i j) =
           let head = alike_head (drop n rest) other d (x ++ back) alike j in
@@ -90,9 +90,9 @@ module _ (events : List (List ℕ)) (rest : List ℕ) where
           let long = length-take-le n rest event.within in
           omega (arith, short, long)
       by a back other is stop alike (same i j) =
-          lacks.none a (drop n rest) is (stops_alike (drop n rest) other alike (subst Stops (sym j) stop))
+          lacks.none a (drop n rest) is (stops_alike (drop n rest) other alike (subst PathStops (sym j) stop))
           (sym (take-append-drop n rest) ∙ ap (λ (z : List ℕ). z ++ drop n rest) (sym i))
-      by a back other is stop alike (longer d x i j) = not_longer a d x (subst Stops j stop) i event.begun
+      by a back other is stop alike (longer d x i j) = not_longer a d x (subst PathStops j stop) i event.begun
 
   -- how far the events were looked through
   pub record IsPartSoFar (n most : ℕ) : Type 0 where

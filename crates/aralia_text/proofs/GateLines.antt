@@ -5,7 +5,7 @@ use Rattle.ar_base.specs.Lists.{IsOneOf}
 use Rattle.ar_base.proofs.Standing.{one_first, one_rest, one_right, one_split, one_cases, one_none}
 use Rattle.eq_core.specs.Gates.{Operand, Gate}
 use Rattle.aralia_text.specs.Texts.{operand_text, joint_text, more_text, operands_text, gate_name, gate_line}
-use Rattle.aralia_text.specs.Fronts.{Stops, IsAny, BeginAlike, begins_with, IsRead, AreBegun, part, IsStuck, IsStuckIn, IsOperandAt, HasOperand, IsJoint, next_text, IsGateAt, header_text, operands_line}
+use Rattle.aralia_text.specs.Fronts.{PathStops, IsAny, BeginAlike, begins_with, IsRead, AreBegun, part, IsStuck, IsStuckIn, IsOperandAt, HasOperand, IsSoughtJoint, next_text, IsGateAt, header_text, operands_line}
 use Rattle.aralia_text.proofs.Stuck.{alike_behind, alike_first, Inside, stuck_behind, stuck_here}
 
 -- what ends a line, and what stands behind it
@@ -13,7 +13,7 @@ abbrev pub ended : List ℕ → List ℕ
 ended back = codes ";\n" ++ back
 
 more_stops : (events : List (List ℕ)) (both : Bool) (os : List Operand) (back : List ℕ)
-    → Stops (more_text events both os ++ ended back)
+    → PathStops (more_text events both os ++ ended back)
 more_stops events both [] back = refl
 more_stops events true (o ∷ os) back = refl
 more_stops events false (o ∷ os) back = refl
@@ -109,10 +109,10 @@ module _ (gates : ℕ) (events : List (List ℕ)) where
 
   module _ (rest : List ℕ) where
     -- the first operand is none
-    pub no_first : (n : ℕ) → IsStuck (IsOperandAt gates events) (operand_text events) Stops rest n
+    pub no_first : (n : ℕ) → IsStuck (IsOperandAt gates events) (operand_text events) PathStops rest n
         → IsStuck (IsGateAt gates events) (operands_line events) IsAny rest n
     no_first n k =
-        stuck_here (IsOperandAt gates events) (operand_text events) Stops (IsGateAt gates events) (operands_line events)
+        stuck_here (IsOperandAt gates events) (operand_text events) PathStops (IsGateAt gates events) (operands_line events)
         IsAny rest n
         (λ o is. record {
           b = two_of true o o;
@@ -131,7 +131,7 @@ module _ (gates : ℕ) (events : List (List ℕ)) where
         }) k
 
     module _ (a : Operand) (left : List ℕ)
-        (first : IsRead (IsOperandAt gates events) (operand_text events) Stops rest a left) where
+        (first : IsRead (IsOperandAt gates events) (operand_text events) PathStops rest a left) where
       record Seconds (other : List ℕ) (gate : Gate) (back : List ℕ)
           (b : Begins (operand_text events a ++ other) gate back) : Type 0 where
         pub first_is : b.first ≡ a
@@ -145,10 +145,10 @@ module _ (gates : ℕ) (events : List (List ℕ)) where
           record { first_is = one.0; left_is = sym one.1 ∙ next_assoc gate.both b.second b.more back }
 
       -- the operand is not joined to another
-      pub no_joint : (n : ℕ) → IsStuck IsJoint joint_text IsAny left n
+      pub no_joint : (n : ℕ) → IsStuck IsSoughtJoint joint_text IsAny left n
           → IsStuck (IsGateAt gates events) (operands_line events) IsAny rest n
       no_joint n k =
-          stuck_behind IsJoint joint_text IsAny (IsGateAt gates events) (operands_line events) IsAny rest
+          stuck_behind IsSoughtJoint joint_text IsAny (IsGateAt gates events) (operands_line events) IsAny rest
           (operand_text events a) left n first.joined
           (part (two_of true a a) (joint_text true ++ (operand_text events a ++ codes ";\n"))
           (two_at true a a first.sought first.sought) (one_text true a a))
@@ -170,7 +170,7 @@ module _ (gates : ℕ) (events : List (List ℕ)) where
                 (more_text events gate.both b.more ++ ended back);
           }) k
 
-      module _ (both : Bool) (behind : List ℕ) (joint : IsRead IsJoint joint_text IsAny left both behind) where
+      module _ (both : Bool) (behind : List ℕ) (joint : IsRead IsSoughtJoint joint_text IsAny left both behind) where
         record Thirds (other : List ℕ) (gate : Gate) (back : List ℕ) : Type 0 where
           pub second : Operand
           pub more : List Operand
@@ -206,10 +206,10 @@ module _ (gates : ℕ) (events : List (List ℕ)) where
             ∙ sym (append_assoc (operand_text events a) (joint_text both) behind)
 
         -- the second operand is none
-        pub no_second : (n : ℕ) → IsStuck (IsOperandAt gates events) (operand_text events) Stops behind n
+        pub no_second : (n : ℕ) → IsStuck (IsOperandAt gates events) (operand_text events) PathStops behind n
             → IsStuck (IsGateAt gates events) (operands_line events) IsAny rest n
         no_second n k =
-            stuck_behind (IsOperandAt gates events) (operand_text events) Stops (IsGateAt gates events)
+            stuck_behind (IsOperandAt gates events) (operand_text events) PathStops (IsGateAt gates events)
             (operands_line events) IsAny rest (operand_text events a ++ joint_text both) behind n begun_text
             (part (two_of both a a) (operand_text events a ++ codes ";\n") (two_at both a a first.sought first.sought)
             (two_text both a a))
@@ -241,7 +241,7 @@ module _ (gates : ℕ) (events : List (List ℕ)) where
 
         -- two operands were read
         pub two_read : (c : Operand) (last : List ℕ)
-            → IsRead (IsOperandAt gates events) (operand_text events) Stops behind c last
+            → IsRead (IsOperandAt gates events) (operand_text events) PathStops behind c last
             → IsSoFar gates events rest both (a ∷ c ∷ []) last
         two_read c last second = record {
           each = (two_at both a c first.sought second.sought).each;
@@ -325,7 +325,7 @@ module _ (gates : ℕ) (events : List (List ℕ)) where
 
         -- a further operand was read
         pub one_more : (o : Operand) (behind : List ℕ)
-            → IsRead (IsOperandAt gates events) (next_text events both) Stops left o behind
+            → IsRead (IsOperandAt gates events) (next_text events both) PathStops left o behind
             → IsSoFar gates events rest both (os ++ o ∷ []) behind
         one_more o behind r = record {
           each = λ p one. elim (one_split os (o ∷ []) p one) [
@@ -356,10 +356,10 @@ module _ (gates : ℕ) (events : List (List ℕ)) where
         }
 
         -- no further operand stands there
-        pub no_more : (n : ℕ) → IsStuck (IsOperandAt gates events) (next_text events both) Stops left n
+        pub no_more : (n : ℕ) → IsStuck (IsOperandAt gates events) (next_text events both) PathStops left n
             → IsStuck (IsGateAt gates events) (operands_line events) IsAny rest n
         no_more n k =
-            stuck_behind (IsOperandAt gates events) (next_text events both) Stops (IsGateAt gates events)
+            stuck_behind (IsOperandAt gates events) (next_text events both) PathStops (IsGateAt gates events)
             (operands_line events) IsAny rest (operands_text events both os) left n far.joined begun_so_far
             (λ o is. record {
               b = record { both = both; operands = os ++ o ∷ [] };

@@ -10,7 +10,7 @@ use Rattle.std.proofs.lemmas.Str.Parse.{digit_at, digits_value-take-le}
 use Rattle.std.proofs.lemmas.Int.Digits.{digits_value_more}
 use Rattle.aralia_text.specs.Readings.{IsPath}
 use Rattle.aralia_text.specs.Texts.{gate_name}
-use Rattle.aralia_text.specs.Fronts.{Stops, BeginAlike, IsRead, AreBegun, none, part, IsStuck, IsStuckIn, IsBelowGate, IsNumberWith, AreDigits}
+use Rattle.aralia_text.specs.Fronts.{PathStops, BeginAlike, IsRead, AreBegun, none, part, IsStuck, IsStuckIn, IsBelowGate, IsNumberWith, AreDigits}
 use Rattle.aralia_text.proofs.Runs.{path_unique, path_byte, number_passes}
 use Rattle.aralia_text.proofs.Stuck.{alike_stops, stops_alike, alike_head, Compared, shorter, same, longer, compared, no_prefix, prefixed_stuck, prefixed_read}
 
@@ -153,8 +153,8 @@ module _ (gates : ℕ) (few : gates < 2 ^ 32) (rest : List ℕ) (value n : ℕ) 
           omega (arith, f, first)
       some at low (inr p) = let v = (digits.some p).0 in omega (arith, v)
 
-  pub number_stuck : (n ≡ 0) ⊎ (Stops (drop n rest) → ⊥)
-      → IsStuck (IsBelowGate gates) number_text Stops rest (length (drop n rest))
+  pub number_stuck : (n ≡ 0) ⊎ (PathStops (drop n rest) → ⊥)
+      → IsStuck (IsBelowGate gates) number_text PathStops rest (length (drop n rest))
   number_stuck out = record {
     front = take n rest;
     left = drop n rest;
@@ -174,29 +174,29 @@ module _ (gates : ℕ) (few : gates < 2 ^ 32) (rest : List ℕ) (value n : ℕ) 
           part (value - 1) [] (omega (arith, some, b))
           (ap decimal again ∙ sym (digits.some h).1 ∙ sym (append-nil (take n rest)))
 
-      exact : (a : ℕ) → a < gates → (back other : List ℕ) → Stops back → BeginAlike (drop n rest) other
-          → decimal (a + 1) ≡ take n rest → other ≡ back → (n ≡ 0) ⊎ (Stops (drop n rest) → ⊥) → ⊥
+      exact : (a : ℕ) → a < gates → (back other : List ℕ) → PathStops back → BeginAlike (drop n rest) other
+          → decimal (a + 1) ≡ take n rest → other ≡ back → (n ≡ 0) ⊎ (PathStops (drop n rest) → ⊥) → ⊥
       exact a is back other stop alike i j (inl z) =
           let some = decimal_nonempty (a + 1) (omega (arith, is, few)) in
           let size : length (decimal (a + 1)) ≡ n = ap length i ∙ long in
           omega (arith, some, size, z)
       exact a is back other stop alike i j (inr on) =
-          on (stops_alike (drop n rest) other alike (subst Stops (sym j) stop))
+          on (stops_alike (drop n rest) other alike (subst PathStops (sym j) stop))
 
-      by : (a : ℕ) (back other : List ℕ) → a < gates → Stops back → BeginAlike (drop n rest) other
+      by : (a : ℕ) (back other : List ℕ) → a < gates → PathStops back → BeginAlike (drop n rest) other
           → Compared (take n rest) (decimal (a + 1)) other back → ⊥
       by a back other is stop alike (shorter d x i j) =
           let head = alike_head (drop n rest) other d (x ++ back) alike j in
           digits.most d head.0 (value * 10 + (d - 48)) head.1 (larger a is d x i)
       by a back other is stop alike (same i j) = exact a is back other stop alike i j out
       by a back other is stop alike (longer d x i j) =
-          true≢false (sym (path_byte (decimal (a + 1)) d x (subst IsPath i front_path)) ∙ subst Stops j stop)
+          true≢false (sym (path_byte (decimal (a + 1)) d x (subst IsPath i front_path)) ∙ subst PathStops j stop)
 
-  module _ (some : 0 < n) (ends : Stops (drop n rest)) where
+  module _ (some : 0 < n) (ends : PathStops (drop n rest)) where
     again : value - 1 + 1 ≡ value
     again = let s = (digits.some some).0 in omega (arith, s)
 
-    pub number_read : IsRead (IsBelowGate gates) number_text Stops rest (value - 1) (drop n rest)
+    pub number_read : IsRead (IsBelowGate gates) number_text PathStops rest (value - 1) (drop n rest)
     number_read = record {
       sought = let s = (digits.some some).0 in let b = digits.below in omega (arith, s, b);
       joined = sym (take-append-drop n rest)
@@ -216,23 +216,23 @@ module _ (gates : ℕ) (few : gates < 2 ^ 32) (rest : List ℕ) (value n : ℕ) 
 -- `g` and the number
 
 pub no_mark : (gates : ℕ) (rest : List ℕ) (n : ℕ) → 0 < gates → IsStuckIn (codes "g") rest n
-    → IsStuck (IsBelowGate gates) gate_name Stops rest n
-no_mark gates rest n some k = no_prefix (IsBelowGate gates) number_text Stops (codes "g") rest 0 some n k
+    → IsStuck (IsBelowGate gates) gate_name PathStops rest n
+no_mark gates rest n some k = no_prefix (IsBelowGate gates) number_text PathStops (codes "g") rest 0 some n k
 
 module _ (gates : ℕ) (rest behind left : List ℕ) (value n : ℕ) (begun : rest ≡ codes "g" ++ behind)
     (few : gates < 2 ^ 32) where
-  pub stuck_at : 0 < gates → AreDigits gates behind value n → left ≡ drop n behind → (n ≡ 0) ⊎ (Stops left → ⊥)
-      → IsStuck (IsBelowGate gates) gate_name Stops rest (length left)
+  pub stuck_at : 0 < gates → AreDigits gates behind value n → left ≡ drop n behind → (n ≡ 0) ⊎ (PathStops left → ⊥)
+      → IsStuck (IsBelowGate gates) gate_name PathStops rest (length left)
   stuck_at some digits is out =
-      subst (λ (z : List ℕ). IsStuck (IsBelowGate gates) gate_name Stops rest (length z)) (sym is)
-      (prefixed_stuck (IsBelowGate gates) number_text Stops (codes "g") rest behind begun 0 some
+      subst (λ (z : List ℕ). IsStuck (IsBelowGate gates) gate_name PathStops rest (length z)) (sym is)
+      (prefixed_stuck (IsBelowGate gates) number_text PathStops (codes "g") rest behind begun 0 some
       (length (drop n behind)) (number_stuck gates few behind value n digits
-      (subst (λ (z : List ℕ). (n ≡ 0) ⊎ (Stops z → ⊥)) is out)))
+      (subst (λ (z : List ℕ). (n ≡ 0) ⊎ (PathStops z → ⊥)) is out)))
 
-  pub read_at : AreDigits gates behind value n → left ≡ drop n behind → 0 < n → Stops left → (m : ℕ) → m ≡ value - 1
-      → IsRead (IsBelowGate gates) gate_name Stops rest m left
+  pub read_at : AreDigits gates behind value n → left ≡ drop n behind → 0 < n → PathStops left → (m : ℕ) → m ≡ value - 1
+      → IsRead (IsBelowGate gates) gate_name PathStops rest m left
   read_at digits is some ends m new =
-      subst (λ (z : List ℕ). IsRead (IsBelowGate gates) gate_name Stops rest m z) (sym is)
-      (subst (λ (z : ℕ). IsRead (IsBelowGate gates) gate_name Stops rest z (drop n behind)) (sym new)
-      (prefixed_read (IsBelowGate gates) number_text Stops (codes "g") rest behind begun (value - 1) (drop n behind)
-      (number_read gates few behind value n digits some (subst Stops is ends))))
+      subst (λ (z : List ℕ). IsRead (IsBelowGate gates) gate_name PathStops rest m z) (sym is)
+      (subst (λ (z : ℕ). IsRead (IsBelowGate gates) gate_name PathStops rest z (drop n behind)) (sym new)
+      (prefixed_read (IsBelowGate gates) number_text PathStops (codes "g") rest behind begun (value - 1) (drop n behind)
+      (number_read gates few behind value n digits some (subst PathStops is ends))))

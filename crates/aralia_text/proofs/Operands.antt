@@ -5,7 +5,7 @@ use Rattle.std.proofs.lemmas.List.{length-take-le}
 use Rattle.ar_base.specs.Texts.{text_at}
 use Rattle.eq_core.specs.Gates.{Operand, Always, Never, EventIs, GateIs}
 use Rattle.aralia_text.specs.Texts.{sign_text, operand_text, gate_name}
-use Rattle.aralia_text.specs.Fronts.{Stops, BeginAlike, begins_with, IsRead, AreBegun, none, part, IsStuck, IsStuckIn, IsAny, IsPathOf, event_text, IsEventPart, IsBelowGate, IsOperandAt, HasOperand, HasNoMinus}
+use Rattle.aralia_text.specs.Fronts.{PathStops, BeginAlike, begins_with, IsRead, AreBegun, none, part, IsStuck, IsStuckIn, IsAny, IsPathOf, event_text, IsEventPart, IsBelowGate, IsOperandAt, HasOperand, HasNoMinus}
 use Rattle.aralia_text.proofs.Stuck.{alike_first, alike_behind, Inside, stuck_behind, not_stuck}
 
 -- Whether there is an operand
@@ -82,8 +82,8 @@ module _ (gates : ℕ) (events : List (List ℕ)) (rest named : List ℕ) (s : B
       let head : ◌≡◌ {A = ℕ} 101 103 = cc in
       omega (arith, head)
 
-  pub event_read : (n : ℕ) (left : List ℕ) → IsRead (IsPathOf events) (event_text events) Stops named n left
-      → IsRead (IsOperandAt gates events) (operand_text events) Stops rest (EventIs n s) left
+  pub event_read : (n : ℕ) (left : List ℕ) → IsRead (IsPathOf events) (event_text events) PathStops named n left
+      → IsRead (IsOperandAt gates events) (operand_text events) PathStops rest (EventIs n s) left
   event_read n left r = record {
     sought = record { earlier = tt; named = r.sought };
     joined = cut.joined ∙ ap (λ (z : List ℕ). sign_text s ++ z) r.joined
@@ -96,13 +96,13 @@ module _ (gates : ℕ) (events : List (List ℕ)) (rest named : List ℕ) (s : B
         (sym (append_assoc (sign_text s) (event_text events n) other) ∙ e));
   }
     where
-      by : (o : Operand) (back other : List ℕ) → Stops back → BeginAlike left other
+      by : (o : Operand) (back other : List ℕ) → PathStops back → BeginAlike left other
           → Behind gates events s (event_text events n ++ other) back o → (o ≡ EventIs n s) × (back ≡ other)
       by o back other stop alike (event k is p f) = let both = r.only k back other p stop alike f in (is ∙ ap (λ (z : ℕ). EventIs z s) both.0, both.1)
       by o back other stop alike (gate k is p f) = absurd (event_not_gate n k other back f)
 
-  pub gate_read : (n : ℕ) (left : List ℕ) → IsRead (IsBelowGate gates) gate_name Stops named n left
-      → IsRead (IsOperandAt gates events) (operand_text events) Stops rest (GateIs n s) left
+  pub gate_read : (n : ℕ) (left : List ℕ) → IsRead (IsBelowGate gates) gate_name PathStops named n left
+      → IsRead (IsOperandAt gates events) (operand_text events) PathStops rest (GateIs n s) left
   gate_read n left r = record {
     sought = record { earlier = r.sought; named = tt };
     joined = cut.joined ∙ ap (λ (z : List ℕ). sign_text s ++ z) r.joined
@@ -115,7 +115,7 @@ module _ (gates : ℕ) (events : List (List ℕ)) (rest named : List ℕ) (s : B
         (sym (append_assoc (sign_text s) (gate_name n) other) ∙ e));
   }
     where
-      by : (o : Operand) (back other : List ℕ) → Stops back → BeginAlike left other
+      by : (o : Operand) (back other : List ℕ) → PathStops back → BeginAlike left other
           → Behind gates events s (gate_name n ++ other) back o → (o ≡ GateIs n s) × (back ≡ other)
       by o back other stop alike (event k is p f) = absurd (event_not_gate k n back other (sym f))
       by o back other stop alike (gate k is p f) = let both = r.only k back other p stop alike f in (is ∙ ap (λ (z : ℕ). GateIs z s) both.0, both.1)
@@ -135,10 +135,10 @@ module _ (gates : ℕ) (events : List (List ℕ)) (rest named : List ℕ) (s : B
       by (GateIs g t) is = part (GateIs g false) (gate_name g) (record { earlier = is.earlier; named = tt }) refl
 
   module _ (some : HasOperand gates events) (n : ℕ) where
-    pub event_stuck : begins_with 103 named ≡ false → IsStuck (IsPathOf events) (event_text events) Stops named n
-        → IsStuck (IsOperandAt gates events) (operand_text events) Stops rest n
+    pub event_stuck : begins_with 103 named ≡ false → IsStuck (IsPathOf events) (event_text events) PathStops named n
+        → IsStuck (IsOperandAt gates events) (operand_text events) PathStops rest n
     event_stuck no_gate k =
-        stuck_behind (IsPathOf events) (event_text events) Stops (IsOperandAt gates events) (operand_text events) Stops
+        stuck_behind (IsPathOf events) (event_text events) PathStops (IsOperandAt gates events) (operand_text events) PathStops
         rest (sign_text s) named n cut.joined (sign_begun s some)
         (λ a is. record {
           b = EventIs a s;
@@ -148,19 +148,19 @@ module _ (gates : ℕ) (events : List (List ℕ)) (rest named : List ℕ) (s : B
         })
         (λ o back other is stop alike e. by o back other stop alike (behind o back other is alike e)) k
       where
-        by : (o : Operand) (back other : List ℕ) → Stops back → BeginAlike named other
+        by : (o : Operand) (back other : List ℕ) → PathStops back → BeginAlike named other
             → Behind gates events s other back o
-            → Inside (IsPathOf events) (event_text events) Stops (IsOperandAt gates events) (operand_text events) Stops
+            → Inside (IsPathOf events) (event_text events) PathStops (IsOperandAt gates events) (operand_text events) PathStops
             other
         by o back other stop alike (event k is p f) = record { a = k; back = back; sought = p; ends = stop; is = f }
         by o back other stop alike (gate k is p f) =
             let here : begins_with 103 other ≡ false = alike_first 103 named other alike ∙ no_gate in
             absurd (true≢false (sym (ap (begins_with 103) f) ∙ here))
 
-    pub gate_stuck : begins_with 103 named ≡ true → IsStuck (IsBelowGate gates) gate_name Stops named n
-        → IsStuck (IsOperandAt gates events) (operand_text events) Stops rest n
+    pub gate_stuck : begins_with 103 named ≡ true → IsStuck (IsBelowGate gates) gate_name PathStops named n
+        → IsStuck (IsOperandAt gates events) (operand_text events) PathStops rest n
     gate_stuck a_gate k =
-        stuck_behind (IsBelowGate gates) gate_name Stops (IsOperandAt gates events) (operand_text events) Stops rest
+        stuck_behind (IsBelowGate gates) gate_name PathStops (IsOperandAt gates events) (operand_text events) PathStops rest
         (sign_text s) named n cut.joined (sign_begun s some)
         (λ a is. record {
           b = GateIs a s;
@@ -170,9 +170,9 @@ module _ (gates : ℕ) (events : List (List ℕ)) (rest named : List ℕ) (s : B
         })
         (λ o back other is stop alike e. by o back other stop alike (behind o back other is alike e)) k
       where
-        by : (o : Operand) (back other : List ℕ) → Stops back → BeginAlike named other
+        by : (o : Operand) (back other : List ℕ) → PathStops back → BeginAlike named other
             → Behind gates events s other back o
-            → Inside (IsBelowGate gates) gate_name Stops (IsOperandAt gates events) (operand_text events) Stops other
+            → Inside (IsBelowGate gates) gate_name PathStops (IsOperandAt gates events) (operand_text events) PathStops other
         by o back other stop alike (event k is p f) =
             let here : begins_with 103 other ≡ true = alike_first 103 named other alike ∙ a_gate in
             absurd (true≢false (sym here ∙ ap (begins_with 103) f))

@@ -6,12 +6,12 @@ use Rattle.ar_base.proofs.Standing.{stands_none}
 use Rattle.ar_lexer.specs.Tokens.{place_after}
 use Rattle.eq_core.specs.Gates.{Table, Always}
 use Rattle.aralia_text.specs.Texts.{equations_text}
-use Rattle.aralia_text.specs.Readings.{IsTextOf, Begins, IsFirstWrong, IsWrongPlace}
-use Rattle.aralia_text.specs.Fronts.{IsEnd, BeginAlike, AreBegun, none, part, IsWritten, IsOnlyTable, IsNoTable}
+use Rattle.aralia_text.specs.Readings.{IsTextOf, BeginsTable, IsFirstWrong, IsWrongPlace}
+use Rattle.aralia_text.specs.Fronts.{IsEnd, BeginAlike, AreBegun, none, part, HasTableText, IsOnlyTable, IsNoTable}
 use Rattle.aralia_text.proofs.Stuck.{not_stuck}
 
 module _ (events : List (List ℕ)) where
-  written : (text : List ℕ) (table : Table) → IsTextOf events text table → IsWritten events table
+  written : (text : List ℕ) (table : Table) → IsTextOf events text table → HasTableText events table
   written text table is = record {
     ordered = is.ordered;
     gates = is.gates;
@@ -20,7 +20,7 @@ module _ (events : List (List ℕ)) where
     is_text = refl;
   }
 
-  text_of : (text : List ℕ) (table : Table) → IsWritten events table → text ≡ equations_text events table
+  text_of : (text : List ℕ) (table : Table) → HasTableText events table → text ≡ equations_text events table
       → IsTextOf events text table
   text_of text table is e = record {
     ordered = is.ordered;
@@ -34,7 +34,7 @@ module _ (events : List (List ℕ)) where
   abbrev no_gates : Table
   no_gates = record { gates = []; conflict = Always; top = Always }
 
-  no_gates_written : IsWritten events no_gates
+  no_gates_written : HasTableText events no_gates
   no_gates_written = record {
     ordered = record { gates = record { each = λ n gate s. absurd (stands_none n gate s) }; conflict = tt; top = tt };
     gates = λ n gate s. absurd (stands_none n gate s);
@@ -54,7 +54,7 @@ module _ (events : List (List ℕ)) where
 
     module _ (n : ℕ) (k : IsNoTable events text n) where
       pub no_table : (table : Table) → IsTextOf events text table → ⊥
-      no_table table is = not_stuck (IsWritten events) (equations_text events) IsEnd text n k table []
+      no_table table is = not_stuck (HasTableText events) (equations_text events) IsEnd text n k table []
           (written text table is) refl (is.is_text ∙ sym (append-nil (equations_text events table)))
 
       whole_len : length text ≡ length k.front + n
@@ -69,7 +69,7 @@ module _ (events : List (List ℕ)) where
       front_is : take (length text - n) text ≡ k.front
       front_is = ap (take (length text - n)) k.joined ∙ take_at k.front k.left (length text - n) front_len
 
-      begins : AreBegun (IsWritten events) (equations_text events) k.front → Begins events k.front
+      begins : AreBegun (HasTableText events) (equations_text events) k.front → BeginsTable events k.front
       begins (none e) = (
         no_gates,
         equations_text events no_gates,
@@ -79,7 +79,7 @@ module _ (events : List (List ℕ)) where
       begins (part table more is e) = (table, more, text_of (k.front ++ more) table is (sym e))
 
       not_further : (left : List ℕ) → k.left ≡ left → length text - n < length text
-          → Begins events (take (length text - n + 1) text) → ⊥
+          → BeginsTable events (take (length text - n + 1) text) → ⊥
       not_further [] i inside b =
           let none_left : n ≡ 0 = sym k.count ∙ ap length i in
           omega (arith, none_left, inside)
@@ -100,7 +100,7 @@ module _ (events : List (List ℕ)) where
       pub first_wrong : IsFirstWrong events text (length text - n)
       first_wrong = record {
         within = omega arith;
-        begins = subst (Begins events) (sym front_is) (begins k.begun);
+        begins = subst (BeginsTable events) (sym front_is) (begins k.begun);
         wrong = not_further k.left refl;
         open_end = λ e table is. no_table table is;
       }
@@ -110,7 +110,7 @@ module _ (events : List (List ℕ)) where
       wrong_place place e = record { at = length text - n; first = first_wrong; place_is = e }
 
     -- a first part of a first part
-    fewer : (j m : ℕ) → j ≤ m → Begins events (take m text) → Begins events (take j text)
+    fewer : (j m : ℕ) → j ≤ m → BeginsTable events (take m text) → BeginsTable events (take j text)
     fewer j m within b =
         let taken : take j (take m text) ≡ take j text = take-take j m text within in
         let parts : take m text ++ b.1 ≡ take j text ++ (drop j (take m text) ++ b.1) =

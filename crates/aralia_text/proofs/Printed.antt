@@ -4,16 +4,16 @@ use Rattle.ar_base.proofs.Standing.{stands_some}
 use Rattle.eq_core.specs.Gates.{Operand, Always, Never, EventIs, GateIs, Table}
 use Rattle.eq_core.specs.Ordered.{IsOrderedTable}
 use Rattle.aralia_text.specs.Texts.{equations_text}
-use Rattle.aralia_text.specs.Readings.{IsNamed, ArePaths, NamesOneOf, NamesEvents, IsTextOf}
+use Rattle.aralia_text.specs.Readings.{HasEventText, ArePaths, NamesOneOf, NamesTextedEvents, IsTextOf}
 
-named : (events : List (List ℕ)) → ArePaths events → (o : Operand) → NamesOneOf (length events) o → IsNamed events o
+named : (events : List (List ℕ)) → ArePaths events → (o : Operand) → NamesOneOf (length events) o → HasEventText events o
 named events paths Always h = tt
 named events paths Never h = tt
 named events paths (EventIs e s) h = let p = stands_some events e h in record { path = p.0; stands = p.1; is_path = paths.each e p.0 p.1 }
 named events paths (GateIs g s) h = tt
 
 pub printed_text : (events : List (List ℕ)) (table : Table) → ArePaths events → IsOrderedTable table
-    → NamesEvents events table → IsTextOf events (equations_text events table) table
+    → NamesTextedEvents events table → IsTextOf events (equations_text events table) table
 printed_text events table paths ordered names = record {
   ordered = ordered;
   gates = λ n gate s. record { each = λ o one. named events paths o (names.gates n gate o s one) };

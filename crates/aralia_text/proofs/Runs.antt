@@ -6,7 +6,7 @@ use Rattle.std.proofs.lemmas.List.{append_cancel_left, take_at, take-append-drop
 use Rattle.std.proofs.lemmas.Slice.Eq.{bytes_eq-Decides}
 use Rattle.std.proofs.lemmas.Fmt.{decimal_by_steps}
 use Rattle.aralia_text.specs.Readings.{is_path_byte, IsPath}
-use Rattle.aralia_text.specs.Fronts.{Stops}
+use Rattle.aralia_text.specs.Fronts.{PathStops}
 
 passes_cons : (b : ℕ) (bs : List ℕ) (r : Bool) → is_path_byte b ≡ r → IsPath (take (prefix_len is_path_byte bs) bs)
     → IsPath (take (cond r (1 + prefix_len is_path_byte bs) 0) (b ∷ bs))
@@ -20,11 +20,11 @@ pub run_passes : (bs : List ℕ) → IsPath (take (prefix_len is_path_byte bs) b
 run_passes [] = tt
 run_passes (b ∷ bs) = passes_cons b bs (is_path_byte b) refl (run_passes bs)
 
-pub stop_len : (back : List ℕ) → Stops back → prefix_len is_path_byte back ≡ 0
+pub stop_len : (back : List ℕ) → PathStops back → prefix_len is_path_byte back ≡ 0
 stop_len [] h = refl
 stop_len (b ∷ back) h = ap (λ r. cond r (1 + prefix_len is_path_byte back) 0) h
 
-pub len_stops : (back : List ℕ) → prefix_len is_path_byte back ≡ 0 → Stops back
+pub len_stops : (back : List ℕ) → prefix_len is_path_byte back ≡ 0 → PathStops back
 len_stops [] h = tt
 len_stops (b ∷ back) h = by (is_path_byte b) refl
   where
@@ -36,7 +36,7 @@ len_stops (b ∷ back) h = by (is_path_byte b) refl
     by false e = e
 
 -- a path before a stop is the run
-pub run_exact : (front back : List ℕ) → IsPath front → Stops back
+pub run_exact : (front back : List ℕ) → IsPath front → PathStops back
     → prefix_len is_path_byte (front ++ back) ≡ length front
 run_exact [] back h f = stop_len back f
 run_exact (b ∷ front) back h f =
@@ -51,7 +51,7 @@ pub record IsRun (rest run left : List ℕ) : Type 0 where
 pub run_path : (rest run left : List ℕ) → IsRun rest run left → IsPath run
 run_path rest run left r = subst IsPath (sym r.run_is) (run_passes rest)
 
-pub run_only : (rest run left path back : List ℕ) → IsRun rest run left → IsPath path → Stops back → rest ≡ path ++ back
+pub run_only : (rest run left path back : List ℕ) → IsRun rest run left → IsPath path → PathStops back → rest ≡ path ++ back
     → (path ≡ run) × (back ≡ left)
 run_only rest run left path back r p s e =
     let n : prefix_len is_path_byte rest ≡ length path = ap (prefix_len is_path_byte) e ∙ run_exact path back p s in
@@ -60,27 +60,27 @@ run_only rest run left path back r p s e =
     ∙ sym r.run_is in
     (same, append_cancel_left path back left (sym e ∙ r.joined ∙ ap (λ (z : List ℕ). z ++ left) (sym same)))
 
-run_stops : (bs : List ℕ) → Stops (drop (prefix_len is_path_byte bs) bs)
+run_stops : (bs : List ℕ) → PathStops (drop (prefix_len is_path_byte bs) bs)
 run_stops [] = tt
 run_stops (b ∷ bs) = by (is_path_byte b) refl (run_stops bs)
   where
-    by : (r : Bool) → is_path_byte b ≡ r → Stops (drop (prefix_len is_path_byte bs) bs)
-        → Stops (drop (cond r (1 + prefix_len is_path_byte bs) 0) (b ∷ bs))
+    by : (r : Bool) → is_path_byte b ≡ r → PathStops (drop (prefix_len is_path_byte bs) bs)
+        → PathStops (drop (cond r (1 + prefix_len is_path_byte bs) 0) (b ∷ bs))
     by true e h =
         let q : 1 + prefix_len is_path_byte bs ≡ suc (prefix_len is_path_byte bs) = omega arith in
-        subst (λ n. Stops (drop n (b ∷ bs))) (sym q) h
+        subst (λ n. PathStops (drop n (b ∷ bs))) (sym q) h
     by false e h = e
 
 -- no path goes on behind the run
-pub run_left : (rest run left : List ℕ) → IsRun rest run left → Stops left
+pub run_left : (rest run left : List ℕ) → IsRun rest run left → PathStops left
 run_left rest run left r =
     let whole : run ++ drop (prefix_len is_path_byte rest) rest ≡ run ++ left =
     ap (λ (z : List ℕ). z ++ drop (prefix_len is_path_byte rest) rest) r.run_is
     ∙ take-append-drop (prefix_len is_path_byte rest) rest ∙ r.joined in
-    subst Stops (append_cancel_left run (drop (prefix_len is_path_byte rest) rest) left whole) (run_stops rest)
+    subst PathStops (append_cancel_left run (drop (prefix_len is_path_byte rest) rest) left whole) (run_stops rest)
 
 -- a text is cut in one way into a path and what stops it
-pub path_unique : (one two left back : List ℕ) → IsPath one → IsPath two → Stops left → Stops back
+pub path_unique : (one two left back : List ℕ) → IsPath one → IsPath two → PathStops left → PathStops back
     → one ++ left ≡ two ++ back → (two ≡ one) × (back ≡ left)
 path_unique one two left back p q s t e =
     run_only (one ++ left) one left two back (record {

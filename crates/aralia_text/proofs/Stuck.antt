@@ -2,7 +2,7 @@
 use Rattle.std.proofs.Common.{◌≡◌, ℕ, ◌+◌, ◌-◌, false, ◌==◌, List, [], ◌∷◌, ◌++◌, length, take, drop, refl, sym, ap, ◌∙◌, subst, append_assoc, append-nil, arith}
 use Rattle.std.proofs.lemmas.List.{append_cancel_left, length-append, length-take-le, length-drop, take-append-drop}
 use Rattle.aralia_text.specs.Readings.{is_path_byte}
-use Rattle.aralia_text.specs.Fronts.{Stops, IsAny, BeginAlike, begins_with, IsRead, AreBegun, none, part, IsStuck, IsStuckIn, AreCommon}
+use Rattle.aralia_text.specs.Fronts.{PathStops, IsAny, BeginAlike, begins_with, IsRead, AreBegun, none, part, IsStuck, IsStuckIn, AreCommon}
 
 -- The same byte first
 
@@ -20,13 +20,13 @@ alike_first c [] (d ∷ ds) h = absurd h
 alike_first c (b ∷ bs) [] h = absurd h
 alike_first c (b ∷ bs) (d ∷ ds) h = ap (λ (z : ℕ). z == c) (sym h)
 
-pub alike_stops : (left other : List ℕ) → BeginAlike left other → Stops left → Stops other
+pub alike_stops : (left other : List ℕ) → BeginAlike left other → PathStops left → PathStops other
 alike_stops [] [] h s = tt
 alike_stops [] (d ∷ ds) h s = absurd h
 alike_stops (b ∷ bs) [] h s = absurd h
 alike_stops (b ∷ bs) (d ∷ ds) h s = subst (λ (z : ℕ). is_path_byte z ≡ false) h s
 
-pub stops_alike : (left other : List ℕ) → BeginAlike left other → Stops other → Stops left
+pub stops_alike : (left other : List ℕ) → BeginAlike left other → PathStops other → PathStops left
 stops_alike [] [] h s = tt
 stops_alike [] (d ∷ ds) h s = absurd h
 stops_alike (b ∷ bs) [] h s = absurd h

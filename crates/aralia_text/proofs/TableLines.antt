@@ -7,8 +7,8 @@ use Rattle.eq_core.specs.Gates.{Operand, Always, Gate, Table}
 use Rattle.eq_core.specs.Ordered.{IsInPlace, AreOrdered}
 use Rattle.eq_core.specs.ValuesInside.{IsBelow}
 use Rattle.aralia_text.specs.Texts.{gate_line, gate_lines, last_lines, equations_text}
-use Rattle.aralia_text.specs.Readings.{AreNamed}
-use Rattle.aralia_text.specs.Fronts.{IsAny, IsEnd, BeginAlike, begins_with, IsRead, AreBegun, part, IsStuck, HasOperand, IsGateAt, Last, last_of, AreLast, last_text, IsWritten, GoesOn, AreRead, HasNoGate, IsOnlyTable, IsNoTable}
+use Rattle.aralia_text.specs.Readings.{HaveEventTexts}
+use Rattle.aralia_text.specs.Fronts.{IsAny, IsEnd, BeginAlike, begins_with, IsRead, AreBegun, part, IsStuck, HasOperand, IsGateAt, Last, last_of, AreLast, last_text, HasTableText, TableGoesOn, AreRead, HasNoGate, IsOnlyTable, IsNoTable}
 use Rattle.aralia_text.proofs.Stuck.{alike_first, alike_behind, stuck_behind, stuck_at_once}
 
 module _ (events : List (List ℕ)) where
@@ -37,7 +37,7 @@ module _ (events : List (List ℕ)) where
 
   module _ (text : List ℕ) (gates : List Gate) (left : List ℕ) (far : AreRead events text gates left) where
     -- a gate that stands in a table
-    gate_there : (table : Table) → IsWritten events table → (gate : Gate) (more : List Gate)
+    gate_there : (table : Table) → HasTableText events table → (gate : Gate) (more : List Gate)
         → table.gates ≡ gates ++ (gate ∷ more) → IsGateAt (length gates) events gate
     gate_there table is gate more e =
         let there : Stands table.gates (length gates) gate =
@@ -74,12 +74,12 @@ module _ (events : List (List ℕ)) where
       more_ordered = record { each = λ n g s. ordered_at n g (stands_split gates (gate ∷ []) n g s) }
 
       named_at : (n : ℕ) (g : Gate) → Stands gates n g ⊎ ((k : ℕ) × (n ≡ length gates + k) × Stands (gate ∷ []) k g)
-          → AreNamed events g
+          → HaveEventTexts events g
       named_at n g (inl s) = far.named n g s
-      named_at n g (inr s) = subst (λ (x : Gate). AreNamed events x) (one_item s.0 g s.2).1
+      named_at n g (inr s) = subst (λ (x : Gate). HaveEventTexts events x) (one_item s.0 g s.2).1
           (record { each = λ o is. (at.each o is).named })
 
-      more_named : (n : ℕ) (g : Gate) → Stands (gates ++ gate ∷ []) n g → AreNamed events g
+      more_named : (n : ℕ) (g : Gate) → Stands (gates ++ gate ∷ []) n g → HaveEventTexts events g
       more_named n g s = named_at n g (stands_split gates (gate ∷ []) n g s)
 
       more_text : gate_lines events 0 (gates ++ gate ∷ [])
@@ -97,7 +97,7 @@ module _ (events : List (List ℕ)) where
       abbrev with_one : Table
       with_one = record { gates = gates ++ gate ∷ []; conflict = Always; top = Always }
 
-      one_written : IsWritten events with_one
+      one_written : HasTableText events with_one
       one_written = record {
         ordered = record { gates = more_ordered; conflict = tt; top = tt };
         gates = more_named;
@@ -116,7 +116,7 @@ module _ (events : List (List ℕ)) where
     abbrev with_last : Last → Table
     with_last last = record { gates = gates; conflict = last.conflict; top = last.top }
 
-    last_written : (last : Last) → AreLast (length gates) events last → IsWritten events (with_last last)
+    last_written : (last : Last) → AreLast (length gates) events last → HasTableText events (with_last last)
     last_written last at = record {
       ordered = record { gates = far.ordered; conflict = at.conflict.below; top = at.top.below };
       gates = far.named;
@@ -125,7 +125,7 @@ module _ (events : List (List ℕ)) where
       is_text = refl;
     }
 
-    begun_far : AreBegun (IsWritten events) (equations_text events) (gate_lines events 0 gates)
+    begun_far : AreBegun (HasTableText events) (equations_text events) (gate_lines events 0 gates)
     begun_far =
         part (with_last (last_of Always Always)) (last_lines events Always Always)
         (last_written (last_of Always Always)
@@ -147,8 +147,8 @@ module _ (events : List (List ℕ)) where
           gate ++ (gate_lines events (length gates + 1) more ++ last_lines events table.conflict table.top)
 
     module _ (a_gate : begins_with 103 left ≡ true) where
-      further : (table : Table) (other : List ℕ) → IsWritten events table → BeginAlike left other
-          → GoesOn events gates other table → Further other table
+      further : (table : Table) (other : List ℕ) → HasTableText events table → BeginAlike left other
+          → TableGoesOn events gates other table → Further other table
       further table other is alike g = by g.more g.gates_is g.left_is
         where
           by : (more : List Gate) → table.gates ≡ gates ++ more
@@ -167,7 +167,7 @@ module _ (events : List (List ℕ)) where
       pub gate_stuck : (n : ℕ) → IsStuck (IsGateAt (length gates) events) (gate_line events (length gates)) IsAny left n
           → IsNoTable events text n
       gate_stuck n k =
-          stuck_behind (IsGateAt (length gates) events) (gate_line events (length gates)) IsAny (IsWritten events)
+          stuck_behind (IsGateAt (length gates) events) (gate_line events (length gates)) IsAny (HasTableText events)
           (equations_text events) IsEnd text (gate_lines events 0 gates) left n far.joined begun_far
           (λ g is. record {
             b = with_one g is;
@@ -243,8 +243,8 @@ module _ (events : List (List ℕ)) where
         pub last_at : AreLast (length gates) events (last_of table.conflict table.top)
         pub left_is : other ≡ last_lines events table.conflict table.top
 
-      ends : (table : Table) (other : List ℕ) → IsWritten events table → BeginAlike left other
-          → GoesOn events gates other table → Ends other table
+      ends : (table : Table) (other : List ℕ) → HasTableText events table → BeginAlike left other
+          → TableGoesOn events gates other table → Ends other table
       ends table other is alike g = by g.more g.gates_is g.left_is
         where
           by : (more : List Gate) → table.gates ≡ gates ++ more
@@ -273,7 +273,7 @@ module _ (events : List (List ℕ)) where
       pub last_stuck : (n : ℕ) → IsStuck (AreLast (length gates) events) (last_text events) IsEnd left n
           → IsNoTable events text n
       last_stuck n k =
-          stuck_behind (AreLast (length gates) events) (last_text events) IsEnd (IsWritten events)
+          stuck_behind (AreLast (length gates) events) (last_text events) IsEnd (HasTableText events)
           (equations_text events) IsEnd text (gate_lines events 0 gates) left n far.joined begun_far
           (λ last is. record {
             b = with_last last;
@@ -307,7 +307,7 @@ module _ (events : List (List ℕ)) where
               ap (λ (z : List Gate). record { gates = z; conflict = table.conflict; top = table.top }) i
               ∙ ap (λ (z : Last). record { gates = gates; conflict = z.conflict; top = z.top }) j
 
-          by : (table : Table) (back other : List ℕ) → IsWritten events table → IsEnd back → BeginAlike [] other
+          by : (table : Table) (back other : List ℕ) → HasTableText events table → IsEnd back → BeginAlike [] other
               → equations_text events (with_last last) ++ other ≡ equations_text events table ++ back
               → (table ≡ with_last last) × (back ≡ other)
           by table back other is end alike e =

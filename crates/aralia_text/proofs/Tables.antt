@@ -3,7 +3,7 @@ use Rattle.std.proofs.Common.{◌≡◌, ℕ, ◌<◌, true, false, true≢false
 use Rattle.std.proofs.lemmas.List.{append_cancel_left}
 use Rattle.eq_core.specs.Gates.{Operand, Always, Never, EventIs, GateIs}
 use Rattle.aralia_text.specs.Texts.{operand_text}
-use Rattle.aralia_text.specs.Fronts.{Stops, IsAny, IsEnd, BeginAlike, begins_with, IsRead, part, IsStuck, IsStuckIn, IsOperandAt, IsLastAt, Last, last_of, AreLast, last_text}
+use Rattle.aralia_text.specs.Fronts.{PathStops, IsAny, IsEnd, BeginAlike, begins_with, IsRead, part, IsStuck, IsStuckIn, IsOperandAt, IsLastAt, Last, last_of, AreLast, last_text}
 use Rattle.aralia_text.proofs.Stuck.{alike_first, alike_behind, Inside, stuck_behind, stuck_here}
 
 module _ (gates : ℕ) (events : List (List ℕ)) where
@@ -22,7 +22,7 @@ module _ (gates : ℕ) (events : List (List ℕ)) where
 
   module _ (rest : List ℕ) where
     pub always_read : (left : List ℕ) → rest ≡ codes "true" ++ left
-        → IsRead (IsLastAt gates events) (operand_text events) Stops rest Always left
+        → IsRead (IsLastAt gates events) (operand_text events) PathStops rest Always left
     always_read left e = record {
       sought = always_at;
       joined = e;
@@ -39,7 +39,7 @@ module _ (gates : ℕ) (events : List (List ℕ)) where
         by (GateIs n false) back other f = absurd (true≢false (ap (begins_with 116) f))
 
     pub never_read : (left : List ℕ) → rest ≡ codes "false" ++ left
-        → IsRead (IsLastAt gates events) (operand_text events) Stops rest Never left
+        → IsRead (IsLastAt gates events) (operand_text events) PathStops rest Never left
     never_read left e = record {
       sought = never_at;
       joined = e;
@@ -56,15 +56,15 @@ module _ (gates : ℕ) (events : List (List ℕ)) where
         by (GateIs n false) back other f = absurd (true≢false (ap (begins_with 102) f))
 
     pub always_stuck : begins_with 116 rest ≡ true → (n : ℕ) → IsStuckIn (codes "true") rest n
-        → IsStuck (IsLastAt gates events) (operand_text events) Stops rest n
+        → IsStuck (IsLastAt gates events) (operand_text events) PathStops rest n
     always_stuck here n k =
-        stuck_here (λ u. Unit {0}) (λ u. codes "true") IsAny (IsLastAt gates events) (operand_text events) Stops rest n
+        stuck_here (λ u. Unit {0}) (λ u. codes "true") IsAny (IsLastAt gates events) (operand_text events) PathStops rest n
         (λ u is. record { b = Always; more = []; sought = always_at; is = refl })
         (λ o back other is stop alike e. by o back other (alike_first 116 rest other alike ∙ here) e) k
       where
         by : (o : Operand) (back other : List ℕ) → begins_with 116 other ≡ true → other ≡ operand_text events o ++ back
             → Inside {A = Unit {0}} (λ u. Unit {0}) (λ u. codes "true") IsAny (IsLastAt gates events)
-            (operand_text events) Stops other
+            (operand_text events) PathStops other
         by Always back other first e = record { a = tt; back = back; sought = tt; ends = tt; is = e }
         by Never back other first e = absurd (true≢false (sym first ∙ ap (begins_with 116) e))
         by (EventIs n true) back other first e = absurd (true≢false (sym first ∙ ap (begins_with 116) e))
@@ -73,15 +73,15 @@ module _ (gates : ℕ) (events : List (List ℕ)) where
         by (GateIs n false) back other first e = absurd (true≢false (sym first ∙ ap (begins_with 116) e))
 
     pub never_stuck : begins_with 102 rest ≡ true → (n : ℕ) → IsStuckIn (codes "false") rest n
-        → IsStuck (IsLastAt gates events) (operand_text events) Stops rest n
+        → IsStuck (IsLastAt gates events) (operand_text events) PathStops rest n
     never_stuck here n k =
-        stuck_here (λ u. Unit {0}) (λ u. codes "false") IsAny (IsLastAt gates events) (operand_text events) Stops rest n
+        stuck_here (λ u. Unit {0}) (λ u. codes "false") IsAny (IsLastAt gates events) (operand_text events) PathStops rest n
         (λ u is. record { b = Never; more = []; sought = never_at; is = refl })
         (λ o back other is stop alike e. by o back other (alike_first 102 rest other alike ∙ here) e) k
       where
         by : (o : Operand) (back other : List ℕ) → begins_with 102 other ≡ true → other ≡ operand_text events o ++ back
             → Inside {A = Unit {0}} (λ u. Unit {0}) (λ u. codes "false") IsAny (IsLastAt gates events)
-            (operand_text events) Stops other
+            (operand_text events) PathStops other
         by Never back other first e = record { a = tt; back = back; sought = tt; ends = tt; is = e }
         by Always back other first e = absurd (true≢false (sym first ∙ ap (begins_with 102) e))
         by (EventIs n true) back other first e = absurd (true≢false (sym first ∙ ap (begins_with 102) e))
@@ -100,8 +100,8 @@ module _ (gates : ℕ) (events : List (List ℕ)) where
       narrow (GateIs g s) back other alike is f = record { earlier = is.below; named = tt }
 
       pub other_read : (o : Operand) (left : List ℕ)
-          → IsRead (IsOperandAt gates events) (operand_text events) Stops rest o left
-          → IsRead (IsLastAt gates events) (operand_text events) Stops rest o left
+          → IsRead (IsOperandAt gates events) (operand_text events) PathStops rest o left
+          → IsRead (IsLastAt gates events) (operand_text events) PathStops rest o left
       other_read o left r = record {
         sought = last_operand o r.sought;
         joined = r.joined;
@@ -113,11 +113,11 @@ module _ (gates : ℕ) (events : List (List ℕ)) where
             stop alike f;
       }
 
-      pub other_stuck : (n : ℕ) → IsStuck (IsOperandAt gates events) (operand_text events) Stops rest n
-          → IsStuck (IsLastAt gates events) (operand_text events) Stops rest n
+      pub other_stuck : (n : ℕ) → IsStuck (IsOperandAt gates events) (operand_text events) PathStops rest n
+          → IsStuck (IsLastAt gates events) (operand_text events) PathStops rest n
       other_stuck n k =
-          stuck_here (IsOperandAt gates events) (operand_text events) Stops (IsLastAt gates events)
-          (operand_text events) Stops rest n
+          stuck_here (IsOperandAt gates events) (operand_text events) PathStops (IsLastAt gates events)
+          (operand_text events) PathStops rest n
           (λ o is. record {
             b = o;
             more = [];
@@ -166,10 +166,10 @@ module _ (gates : ℕ) (events : List (List ℕ)) where
           append_cancel_left begin other ((operand_text events l.conflict ++ behind_conflict l.top) ++ back) e
           ∙ append_assoc (operand_text events l.conflict) (behind_conflict l.top) back
 
-      pub conflict_stuck : (n : ℕ) → IsStuck (IsLastAt gates events) (operand_text events) Stops one n
+      pub conflict_stuck : (n : ℕ) → IsStuck (IsLastAt gates events) (operand_text events) PathStops one n
           → IsStuck (AreLast gates events) (last_text events) IsEnd rest n
       conflict_stuck n k =
-          stuck_behind (IsLastAt gates events) (operand_text events) Stops (AreLast gates events) (last_text events)
+          stuck_behind (IsLastAt gates events) (operand_text events) PathStops (AreLast gates events) (last_text events)
           IsEnd rest begin one n begun
           (part (last_of Always Always) (operand_text events Always ++ behind_conflict Always)
           (always_last Always always_at) refl)
@@ -183,7 +183,7 @@ module _ (gates : ℕ) (events : List (List ℕ)) where
           }) k
 
       module _ (c : Operand) (two : List ℕ)
-          (first : IsRead (IsLastAt gates events) (operand_text events) Stops one c two) where
+          (first : IsRead (IsLastAt gates events) (operand_text events) PathStops one c two) where
         at_top : (l : Last) (back other : List ℕ) → AreLast gates events l → BeginAlike two other
             → begin ++ (operand_text events c ++ other) ≡ last_text events l ++ back
             → (l.conflict ≡ c) × (behind_conflict l.top ++ back ≡ other)
@@ -236,10 +236,10 @@ module _ (gates : ℕ) (events : List (List ℕ)) where
           three_there = two_there ∙ ap (λ (z : List ℕ). begin ++ (operand_text events c ++ z)) topped
               ∙ sym (split_top three)
 
-          pub top_stuck : (n : ℕ) → IsStuck (IsLastAt gates events) (operand_text events) Stops three n
+          pub top_stuck : (n : ℕ) → IsStuck (IsLastAt gates events) (operand_text events) PathStops three n
               → IsStuck (AreLast gates events) (last_text events) IsEnd rest n
           top_stuck n k =
-              stuck_behind (IsLastAt gates events) (operand_text events) Stops (AreLast gates events) (last_text events)
+              stuck_behind (IsLastAt gates events) (operand_text events) PathStops (AreLast gates events) (last_text events)
               IsEnd rest to_top three n three_there
               (part (last_of c Always) (operand_text events Always ++ codes ";\n") (always_last c first.sought)
               (sym (split_top (operand_text events Always ++ codes ";\n"))))
@@ -259,7 +259,7 @@ module _ (gates : ℕ) (events : List (List ℕ)) where
               }) k
 
           module _ (t : Operand) (four : List ℕ)
-              (second : IsRead (IsLastAt gates events) (operand_text events) Stops three t four) where
+              (second : IsRead (IsLastAt gates events) (operand_text events) PathStops three t four) where
             abbrev to_end : List ℕ
             to_end = to_top ++ operand_text events t
 

@@ -3,7 +3,7 @@ use Rattle.std.specs.Prelude.{◌≡◌, ◌<◌, ◌≤◌, ℕ, ◌+◌, ◌*�
 use Rattle.ar_base.specs.Texts.{text_at}
 use Rattle.ar_base.specs.Lists.{Stands, IsOneOf, AreDifferent}
 use Rattle.eq_core.specs.Gates.{Operand, Gate, Table}
-use Rattle.eq_core.specs.Ordered.{IsEarlier, AreOrdered}
+use Rattle.eq_core.specs.Ordered.{NamesEarlier, AreOrdered}
 use Rattle.eq_core.specs.ValuesInside.{IsBelow}
 use Rattle.aralia_text.specs.Texts.{operand_text, joint_text, gate_name, operands_text, gate_lines, last_lines, equations_text}
 use Rattle.aralia_text.specs.Readings as r
@@ -11,9 +11,9 @@ use Rattle.aralia_text.specs.Readings as r
 -- What may stand behind what is sought
 
 -- no path goes on here
-abbrev pub Stops : List ℕ → Type 0
-Stops [] = Unit {0}
-Stops (b ∷ bs) = r.is_path_byte b ≡ false
+abbrev pub PathStops : List ℕ → Type 0
+PathStops [] = Unit {0}
+PathStops (b ∷ bs) = r.is_path_byte b ≡ false
 
 -- anything
 abbrev pub IsAny : List ℕ → Type 0
@@ -77,12 +77,12 @@ pub record AreCommon (a b : List ℕ) (n : ℕ) : Type 0 where
 -- Events, gates and operands
 
 -- a table of the texts of events
-pub record AreEvents (events : List (List ℕ)) : Type 0 where
+pub record AreEventTexts (events : List (List ℕ)) : Type 0 where
   pub different : AreDifferent events
   pub few : length events < 2 ^ 32
 
 abbrev pub IsPathOf : List (List ℕ) → ℕ → Type 0
-IsPathOf events e = r.IsPathOf events e
+IsPathOf events e = r.HasPathText events e
 
 -- the name of an event
 abbrev pub event_text : List (List ℕ) → ℕ → List ℕ
@@ -90,7 +90,7 @@ event_text events e = codes "e." ++ text_at events e
 
 -- no event stands at the front
 pub record HasNoEvent (events : List (List ℕ)) (rest : List ℕ) : Type 0 where
-  pub none : (e : ℕ) (back : List ℕ) → IsPathOf events e → Stops back → rest ≡ event_text events e ++ back → ⊥
+  pub none : (e : ℕ) (back : List ℕ) → IsPathOf events e → PathStops back → rest ≡ event_text events e ++ back → ⊥
 
 -- So many bytes at the front are a first part of the name of an event, and no more are.
 pub record IsEventPart (events : List (List ℕ)) (rest : List ℕ) (n : ℕ) : Type 0 where
@@ -123,8 +123,8 @@ pub record AreDigits (gates : ℕ) (rest : List ℕ) (value n : ℕ) : Type 0 wh
 
 -- an event or one of so many gates
 pub record IsOperandAt (gates : ℕ) (events : List (List ℕ)) (o : Operand) : Type 0 where
-  pub earlier : IsEarlier gates o
-  pub named : r.IsNamed events o
+  pub earlier : NamesEarlier gates o
+  pub named : r.HasEventText events o
 
 -- there is an operand for a gate
 abbrev pub HasOperand : ℕ → List (List ℕ) → Type 0
@@ -139,8 +139,8 @@ abbrev pub next_text : List (List ℕ) → Bool → Operand → List ℕ
 next_text events both o = joint_text both ++ operand_text events o
 
 -- all joints are sought
-abbrev pub IsJoint : Bool → Type 0
-IsJoint both = Unit {0}
+abbrev pub IsSoughtJoint : Bool → Type 0
+IsSoughtJoint both = Unit {0}
 
 -- a gate over at least two operands, each an event or one of so many gates
 pub record IsGateAt (gates : ℕ) (events : List (List ℕ)) (gate : Gate) : Type 0 where
@@ -158,7 +158,7 @@ operands_line events gate = operands_text events gate.both gate.operands ++ code
 -- always or never true, an event or one of so many gates
 pub record IsLastAt (gates : ℕ) (events : List (List ℕ)) (o : Operand) : Type 0 where
   pub below : IsBelow gates o
-  pub named : r.IsNamed events o
+  pub named : r.HasEventText events o
 
 -- the conflict operand and the top operand
 pub record Last : Type 0 where
@@ -180,11 +180,11 @@ last_text events last = last_lines events last.conflict last.top
 -- Tables
 
 -- a table that has a text
-abbrev pub IsWritten : List (List ℕ) → Table → Type 0
-IsWritten events table = r.IsTextOf events (equations_text events table) table
+abbrev pub HasTableText : List (List ℕ) → Table → Type 0
+HasTableText events table = r.IsTextOf events (equations_text events table) table
 
 -- a table goes on so behind these gates
-pub record GoesOn (events : List (List ℕ)) (gates : List Gate) (left : List ℕ) (table : Table) : Type 0 where
+pub record TableGoesOn (events : List (List ℕ)) (gates : List Gate) (left : List ℕ) (table : Table) : Type 0 where
   pub more : List Gate
   pub gates_is : table.gates ≡ gates ++ more
   pub left_is : left ≡ gate_lines events (length gates) more ++ last_lines events table.conflict table.top
@@ -192,11 +192,11 @@ pub record GoesOn (events : List (List ℕ)) (gates : List Gate) (left : List �
 -- these gates were read, and each table that begins with their lines goes on behind them
 pub record AreRead (events : List (List ℕ)) (text : List ℕ) (gates : List Gate) (left : List ℕ) : Type 0 where
   pub ordered : AreOrdered gates
-  pub named : (n : ℕ) (gate : Gate) → Stands gates n gate → r.AreNamed events gate
+  pub named : (n : ℕ) (gate : Gate) → Stands gates n gate → r.HaveEventTexts events gate
   pub joined : text ≡ gate_lines events 0 gates ++ left
   pub few : length gates + length left ≤ length text
-  pub only : (table : Table) (other : List ℕ) → IsWritten events table → BeginAlike left other
-      → gate_lines events 0 gates ++ other ≡ equations_text events table → GoesOn events gates other table
+  pub only : (table : Table) (other : List ℕ) → HasTableText events table → BeginAlike left other
+      → gate_lines events 0 gates ++ other ≡ equations_text events table → TableGoesOn events gates other table
 
 -- no further gate stands there
 abbrev pub HasNoGate : List ℕ → Type 0
@@ -204,8 +204,8 @@ HasNoGate left = begins_with 103 left ≡ false
 
 -- the text is that of this table alone
 abbrev pub IsOnlyTable : List (List ℕ) → List ℕ → Table → Type 0
-IsOnlyTable events text table = IsRead (IsWritten events) (equations_text events) IsEnd text table []
+IsOnlyTable events text table = IsRead (HasTableText events) (equations_text events) IsEnd text table []
 
 -- the text is stuck before the last so many bytes
 abbrev pub IsNoTable : List (List ℕ) → List ℕ → ℕ → Type 0
-IsNoTable events = IsStuck (IsWritten events) (equations_text events) IsEnd
+IsNoTable events = IsStuck (HasTableText events) (equations_text events) IsEnd

@@ -18,41 +18,41 @@ abbrev pub IsPath : List ℕ → Type 0
 IsPath = AllByRecursion (λ b. is_path_byte b ≡ true)
 
 -- the event of this number has a text, of letters, digits, `_` and `.`
-pub record IsPathOf (events : List (List ℕ)) (e : ℕ) : Type 0 where
+pub record HasPathText (events : List (List ℕ)) (e : ℕ) : Type 0 where
   pub path : List ℕ
   pub stands : Stands events e path
   pub is_path : IsPath path
 
 -- an event that the operand names has such a text
-abbrev pub IsNamed : List (List ℕ) → Operand → Type 0
-IsNamed events Always = Unit {0}
-IsNamed events Never = Unit {0}
-IsNamed events (EventIs e sign) = IsPathOf events e
-IsNamed events (GateIs g sign) = Unit {0}
+abbrev pub HasEventText : List (List ℕ) → Operand → Type 0
+HasEventText events Always = Unit {0}
+HasEventText events Never = Unit {0}
+HasEventText events (EventIs e sign) = HasPathText events e
+HasEventText events (GateIs g sign) = Unit {0}
 
 -- each operand of the gate names such an event, if any
-pub record AreNamed (events : List (List ℕ)) (gate : Gate) : Type 0 where
-  pub each : (o : Operand) → IsOneOf gate.operands o → IsNamed events o
+pub record HaveEventTexts (events : List (List ℕ)) (gate : Gate) : Type 0 where
+  pub each : (o : Operand) → IsOneOf gate.operands o → HasEventText events o
 
 -- the text is that of this table: the table's gates are in order, all its events have texts of letters, digits, `_` and
 -- `.`, and it is written so
 pub record IsTextOf (events : List (List ℕ)) (text : List ℕ) (table : Table) : Type 0 where
   pub ordered : IsOrderedTable table
-  pub gates : (n : ℕ) (gate : Gate) → Stands table.gates n gate → AreNamed events gate
-  pub conflict : IsNamed events table.conflict
-  pub top : IsNamed events table.top
+  pub gates : (n : ℕ) (gate : Gate) → Stands table.gates n gate → HaveEventTexts events gate
+  pub conflict : HasEventText events table.conflict
+  pub top : HasEventText events table.top
   pub is_text : text ≡ equations_text events table
 
 -- some text of a table has this first part
-abbrev pub Begins : List (List ℕ) → List ℕ → Type 0
-Begins events front = (table : Table) × (more : List ℕ) × IsTextOf events (front ++ more) table
+abbrev pub BeginsTable : List (List ℕ) → List ℕ → Type 0
+BeginsTable events front = (table : Table) × (more : List ℕ) × IsTextOf events (front ++ more) table
 
 -- The first so many bytes of the text are the first part of a text of a table. With the next byte they are that of
 -- none, or the text ends there and is that of no table.
 pub record IsFirstWrong (events : List (List ℕ)) (text : List ℕ) (k : ℕ) : Type 0 where
   pub within : k ≤ length text
-  pub begins : Begins events (take k text)
-  pub wrong : k < length text → Begins events (take (k + 1) text) → ⊥
+  pub begins : BeginsTable events (take k text)
+  pub wrong : k < length text → BeginsTable events (take (k + 1) text) → ⊥
   pub open_end : k ≡ length text → (table : Table) → IsTextOf events text table → ⊥
 
 -- the place of the first byte with which no text of a table goes on, or of the end where only that is wrong
@@ -73,7 +73,7 @@ NamesOneOf n (EventIs e sign) = e < n
 NamesOneOf n (GateIs g sign) = Unit {0}
 
 -- every event that the table names has a text
-pub record NamesEvents (events : List (List ℕ)) (table : Table) : Type 0 where
+pub record NamesTextedEvents (events : List (List ℕ)) (table : Table) : Type 0 where
   pub gates : (n : ℕ) (gate : Gate) (o : Operand) → Stands table.gates n gate → IsOneOf gate.operands o
       → NamesOneOf (length events) o
   pub conflict : NamesOneOf (length events) table.conflict

@@ -5,7 +5,7 @@ ghost use Rattle.std.specs.List.{prefix_len};
 ghost use Rattle.eq_core.specs.Views.{operand_of};
 ghost use Rattle.aralia_text.specs.Texts.{sign_text, operand_text, gate_name};
 ghost use Rattle.aralia_text.specs.Readings.{is_path_byte};
-ghost use Rattle.aralia_text.specs.Fronts.{AreEvents, IsRead, IsStuck, IsStuckIn, AreCommon, IsPathOf, event_text, IsEventPart, IsBelowGate, IsNumberWith, AreDigits, IsOperandAt, HasOperand, HasNoMinus, Stops, begins_with};
+ghost use Rattle.aralia_text.specs.Fronts.{AreEventTexts, IsRead, IsStuck, IsStuckIn, AreCommon, IsPathOf, event_text, IsEventPart, IsBelowGate, IsNumberWith, AreDigits, IsOperandAt, HasOperand, HasNoMinus, PathStops, begins_with};
 
 use ar_base::{EventId, GateId, NameId, Names};
 use eq_core::Operand;
@@ -72,7 +72,7 @@ pub fn literal<'a>(rest: &'a [u8], text: &[u8]) -> Result<&'a [u8], Stuck>
 
 // How many bytes at the front are a first part of the name of an event.
 fn event_part(rest: &[u8], names: &Names) -> usize
-    requires { AreEvents names.now }
+    requires { AreEventTexts names.now }
     ensures { IsEventPart names.now rest.now result }
 {
     let mut most: usize = 0;
@@ -95,11 +95,11 @@ fn event_part(rest: &[u8], names: &Names) -> usize
 
 // The event at the front: `e.` and its path, the longest run of its bytes.
 fn event<'a>(rest: &'a [u8], names: &Names) -> Result<(EventId, &'a [u8]), Stuck>
-    requires { AreEvents names.now }
+    requires { AreEventTexts names.now }
     ensures found { IfOk result (λ r.
-        IsRead (IsPathOf names.now) (event_text names.now) Stops rest.now r.0.n r.1.now) }
+        IsRead (IsPathOf names.now) (event_text names.now) PathStops rest.now r.0.n r.1.now) }
     ensures stuck { IfErr result (λ stuck.
-        IsStuck (IsPathOf names.now) (event_text names.now) Stops rest.now stuck.left) }
+        IsStuck (IsPathOf names.now) (event_text names.now) PathStops rest.now stuck.left) }
 {
     if let Ok(behind) = literal(rest, b"e.") {
         let (run, left) = behind.split_at(path_len(behind));
@@ -146,9 +146,9 @@ fn digits(rest: &[u8], gates: u32) -> (u32, usize)
 // One of so many gates: `g` and its number, from 1.
 fn gate<'a>(rest: &'a [u8], gates: u32) -> Result<(GateId, &'a [u8]), Stuck>
     ensures found { IfOk result (λ r.
-        IsRead (IsBelowGate gates) gate_name Stops rest.now r.0.n r.1.now) }
+        IsRead (IsBelowGate gates) gate_name PathStops rest.now r.0.n r.1.now) }
     ensures stuck { IfErr result (λ stuck.
-        IsStuck (IsBelowGate gates) gate_name Stops rest.now stuck.left) }
+        IsStuck (IsBelowGate gates) gate_name PathStops rest.now stuck.left) }
 {
     if gates == 0 {
         return Err(Stuck { left: rest.len() });
@@ -177,7 +177,7 @@ fn sign(rest: &[u8]) -> (bool, &[u8])
 
 // Whether there is an operand for a gate behind so many others.
 pub fn has_operand(gates: u32, names: &Names) -> bool
-    requires { AreEvents names.now }
+    requires { AreEventTexts names.now }
     ensures yes { result ≡ true → HasOperand gates names.now }
     ensures no { result ≡ false → HasOperand gates names.now → ⊥ }
 {
@@ -186,12 +186,12 @@ pub fn has_operand(gates: u32, names: &Names) -> bool
 
 // An operand that is an event or one of so many gates, where there is one.
 fn signed<'a>(rest: &'a [u8], gates: u32, names: &Names) -> Result<(Operand, &'a [u8]), Stuck>
-    requires { AreEvents names.now }
+    requires { AreEventTexts names.now }
     ensures found { IfOk result (λ r.
-        IsRead (IsOperandAt gates names.now) (operand_text names.now) Stops rest.now
+        IsRead (IsOperandAt gates names.now) (operand_text names.now) PathStops rest.now
         (operand_of r.0) r.1.now) }
     ensures stuck { IfErr result (λ stuck. HasOperand gates names.now
-        → IsStuck (IsOperandAt gates names.now) (operand_text names.now) Stops rest.now
+        → IsStuck (IsOperandAt gates names.now) (operand_text names.now) PathStops rest.now
         stuck.left) }
 {
     let (sign, named) = sign(rest);
@@ -205,12 +205,12 @@ fn signed<'a>(rest: &'a [u8], gates: u32, names: &Names) -> Result<(Operand, &'a
 
 // An operand that is an event or one of so many gates.
 pub fn operand<'a>(rest: &'a [u8], gates: u32, names: &Names) -> Result<(Operand, &'a [u8]), Stuck>
-    requires { AreEvents names.now }
+    requires { AreEventTexts names.now }
     ensures found { IfOk result (λ r.
-        IsRead (IsOperandAt gates names.now) (operand_text names.now) Stops rest.now
+        IsRead (IsOperandAt gates names.now) (operand_text names.now) PathStops rest.now
         (operand_of r.0) r.1.now) }
     ensures stuck { IfErr result (λ stuck.
-        IsStuck (IsOperandAt gates names.now) (operand_text names.now) Stops rest.now stuck.left) }
+        IsStuck (IsOperandAt gates names.now) (operand_text names.now) PathStops rest.now stuck.left) }
 {
     match signed(rest, gates, names) {
         Ok(read) => Ok(read),

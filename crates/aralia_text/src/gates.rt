@@ -3,7 +3,7 @@
 ghost use Rattle.std.specs.Prelude.{◌≡◌, ℕ, IfOk, IfErr};
 ghost use Rattle.eq_core.specs.Views.{all_needed, operand_of, gate_of};
 ghost use Rattle.aralia_text.specs.Texts.{joint_text, gate_line};
-ghost use Rattle.aralia_text.specs.Fronts.{AreEvents, IsRead, IsStuck, IsAny, Stops, IsOperandAt, HasOperand, IsJoint, IsGateAt, operands_line};
+ghost use Rattle.aralia_text.specs.Fronts.{AreEventTexts, IsRead, IsStuck, IsAny, PathStops, IsOperandAt, HasOperand, IsSoughtJoint, IsGateAt, operands_line};
 
 use crate::fronts::{Stuck, begins_with, literal, operand};
 use crate::printing::between;
@@ -54,11 +54,35 @@ impl<T: Drop> From<AllocFailed<T>> for Stop {
     }
 }
 
+// The line of the gate behind so many others: its name and `:=`, and its operands.
+pub fn gate<'a>(
+    alloc: Global,
+    rest: &'a [u8],
+    gates: u32,
+    names: &Names,
+) -> Result<(Gate, &'a [u8]), Stop>
+    requires events { AreEventTexts names.now }
+    requires some { HasOperand gates names.now }
+    ensures found { IfOk result (λ r.
+        IsRead (IsGateAt gates names.now) (gate_line names.now gates) IsAny rest.now (gate_of r.0)
+        r.1.now) }
+    ensures stuck { IfErr result (λ stop. (stuck : _) → stop ≡ Stop.Stuck stuck
+        → IsStuck (IsGateAt gates names.now) (gate_line names.now gates) IsAny rest.now
+        stuck.left) }
+{
+    let mut buffer = Buffer::new();
+    let digits = buffer.format(gates as usize + 1).as_bytes();
+    let behind = literal(rest, b"g")?;
+    let behind = literal(behind, digits)?;
+    let behind = literal(behind, b" := ")?;
+    operands(alloc, behind, gates, names)
+}
+
 // How the operand behind the front is joined to those before.
 fn joint(rest: &[u8]) -> Result<(Joint, &[u8]), Stuck>
     ensures found { IfOk result (λ r.
-        IsRead IsJoint joint_text IsAny rest.now (all_needed r.0) r.1.now) }
-    ensures stuck { IfErr result (λ stuck. IsStuck IsJoint joint_text IsAny rest.now stuck.left) }
+        IsRead IsSoughtJoint joint_text IsAny rest.now (all_needed r.0) r.1.now) }
+    ensures stuck { IfErr result (λ stuck. IsStuck IsSoughtJoint joint_text IsAny rest.now stuck.left) }
 {
     let behind = literal(rest, b" ")?;
     if begins_with(behind, b'&') {
@@ -76,7 +100,7 @@ fn operands<'a>(
     gates: u32,
     names: &Names,
 ) -> Result<(Gate, &'a [u8]), Stop>
-    requires events { AreEvents names.now }
+    requires events { AreEventTexts names.now }
     requires some { HasOperand gates names.now }
     ensures found { IfOk result (λ r.
         IsRead (IsGateAt gates names.now) (operands_line names.now) IsAny rest.now (gate_of r.0)
@@ -100,28 +124,4 @@ fn operands<'a>(
         operands.push(one)?;
         left = behind;
     }
-}
-
-// The line of the gate behind so many others: its name and `:=`, and its operands.
-pub fn gate<'a>(
-    alloc: Global,
-    rest: &'a [u8],
-    gates: u32,
-    names: &Names,
-) -> Result<(Gate, &'a [u8]), Stop>
-    requires events { AreEvents names.now }
-    requires some { HasOperand gates names.now }
-    ensures found { IfOk result (λ r.
-        IsRead (IsGateAt gates names.now) (gate_line names.now gates) IsAny rest.now (gate_of r.0)
-        r.1.now) }
-    ensures stuck { IfErr result (λ stop. (stuck : _) → stop ≡ Stop.Stuck stuck
-        → IsStuck (IsGateAt gates names.now) (gate_line names.now gates) IsAny rest.now
-        stuck.left) }
-{
-    let mut buffer = Buffer::new();
-    let digits = buffer.format(gates as usize + 1).as_bytes();
-    let behind = literal(rest, b"g")?;
-    let behind = literal(behind, digits)?;
-    let behind = literal(behind, b" := ")?;
-    operands(alloc, behind, gates, names)
 }

@@ -4,7 +4,7 @@ ghost use Rattle.std.specs.Prelude.{◌≡◌, ℕ, List};
 ghost use Rattle.eq_core.specs.Gates.{Table};
 ghost use Rattle.eq_core.specs.Ordered.{IsOrderedTable};
 ghost use Rattle.aralia_text.specs.Texts.{equations_text};
-ghost use Rattle.aralia_text.specs.Readings.{ArePaths, NamesEvents, IsTextOf, IsFirstWrong};
+ghost use Rattle.aralia_text.specs.Readings.{ArePaths, NamesTextedEvents, IsTextOf, IsFirstWrong};
 
 /// Laws of the reading of a gate table.
 ///
@@ -14,7 +14,7 @@ ghost use Rattle.aralia_text.specs.Readings.{ArePaths, NamesEvents, IsTextOf, Is
 ///   one.
 pub fn reading_laws()
     ensures printed_is_read { (events : List (List ℕ)) (table : Table) → ArePaths events → IsOrderedTable table
-        → NamesEvents events table
+        → NamesTextedEvents events table
         → IsTextOf events (equations_text events table) table }
     ensures first_wrong_is_one { (events : List (List ℕ)) (text : List ℕ) (k m : ℕ) → IsFirstWrong events text k
         → IsFirstWrong events text m → k ≡ m }

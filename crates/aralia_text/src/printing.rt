@@ -1,7 +1,7 @@
 //! The text of a table, written.
 
 ghost use Rattle.std.specs.Prelude.{◌≡◌, ◌<◌, ◌^◌, map};
-ghost use Rattle.ar_io.specs.WritingInside.{Writes};
+ghost use Rattle.ar_io.specs.Handing.{Writes};
 ghost use Rattle.eq_core.specs.Gates as gates;
 ghost use Rattle.eq_core.specs.Views.{all_needed, operand_of, gate_of, table_of};
 ghost use Rattle.aralia_text.specs.Texts.{sign_text, operand_text, joint_text, operands_text, more_text, gate_lines, gate_name, equations_text};

@@ -7,7 +7,7 @@ ghost use Rattle.eq_core.specs.Gates as gates;
 ghost use Rattle.eq_core.specs.Views.{operand_of, gate_of, table_of};
 ghost use Rattle.aralia_text.specs.Texts.{operand_text};
 ghost use Rattle.aralia_text.specs.Readings.{IsTextOf, IsWrongPlace};
-ghost use Rattle.aralia_text.specs.Fronts.{AreEvents, IsRead, IsStuck, Stops, IsEnd, IsLastAt, AreLast, last_of, last_text, AreRead, HasNoGate, IsOnlyTable, IsNoTable};
+ghost use Rattle.aralia_text.specs.Fronts.{AreEventTexts, IsRead, IsStuck, PathStops, IsEnd, IsLastAt, AreLast, last_of, last_text, AreRead, HasNoGate, IsOnlyTable, IsNoTable};
 
 use crate::fronts::{Stuck, begins_with, has_operand, literal, operand};
 use crate::gates::{Stop, gate};
@@ -17,12 +17,12 @@ use std::alloc::Global;
 
 // An operand of one of the two last lines.
 fn last_operand<'a>(rest: &'a [u8], gates: u32, names: &Names) -> Result<(Operand, &'a [u8]), Stuck>
-    requires { AreEvents names.now }
+    requires { AreEventTexts names.now }
     ensures found { IfOk result (λ r.
-        IsRead (IsLastAt gates names.now) (operand_text names.now) Stops rest.now (operand_of r.0)
+        IsRead (IsLastAt gates names.now) (operand_text names.now) PathStops rest.now (operand_of r.0)
         r.1.now) }
     ensures stuck { IfErr result (λ stuck.
-        IsStuck (IsLastAt gates names.now) (operand_text names.now) Stops rest.now stuck.left) }
+        IsStuck (IsLastAt gates names.now) (operand_text names.now) PathStops rest.now stuck.left) }
 {
     if begins_with(rest, b't') {
         let left = literal(rest, b"true")?;
@@ -37,7 +37,7 @@ fn last_operand<'a>(rest: &'a [u8], gates: u32, names: &Names) -> Result<(Operan
 
 // The two last lines, with nothing behind them: the conflict operand and the top operand.
 fn last_lines(rest: &[u8], gates: u32, names: &Names) -> Result<(Operand, Operand), Stuck>
-    requires { AreEvents names.now }
+    requires { AreEventTexts names.now }
     ensures found { IfOk result (λ r.
         IsRead (AreLast gates names.now) (last_text names.now) IsEnd rest.now
         (last_of (operand_of r.0) (operand_of r.1)) []) }
@@ -61,7 +61,7 @@ fn gate_lines<'a>(
     text: &'a [u8],
     names: &Names,
 ) -> Result<(Vec<Gate>, &'a [u8]), Stop>
-    requires events { AreEvents names.now }
+    requires events { AreEventTexts names.now }
     requires short { length text.now ≤ 2 ^ 31 }
     ensures found { IfOk result (λ r. AreRead names.now text.now (map gate_of r.0.items) r.1.now) }
     ensures end { IfOk result (λ r. HasNoGate r.1.now) }
@@ -83,7 +83,7 @@ fn gate_lines<'a>(
 
 // The table of the text.
 fn table(alloc: Global, text: &[u8], names: &Names) -> Result<Equations, Stop>
-    requires events { AreEvents names.now }
+    requires events { AreEventTexts names.now }
     requires short { length text.now ≤ 2 ^ 31 }
     ensures found { IfOk result (λ q. IsOnlyTable names.now text.now (table_of q)) }
     ensures stuck { IfErr result (λ stop. (stuck : _) → stop ≡ Stop.Stuck stuck

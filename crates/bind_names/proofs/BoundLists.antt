@@ -18,7 +18,7 @@ use Rattle.hierarchy.specs.Tie.{IsTreeOf}
 use Rattle.hierarchy.specs.declared.tree.Tree.{Tree}
 use Rattle.source_meaning.specs.Acts.{assigns_of, places_of}
 use Rattle.source_meaning.specs.Binding.{IsBoundFrom, HasTexts}
-use Rattle.source_meaning.specs.SoundBound.{IsOver, IsSoundBound}
+use Rattle.source_meaning.specs.SoundBound.{IsOverBound, IsSoundBound}
 use Rattle.source_meaning.specs.Systems.{Declarations, AreOf}
 use Rattle.source_meaning.specs.declared.bound.Bound.{Bound}
 use Rattle.source_meaning.proofs.Different.{things_different}
@@ -133,7 +133,7 @@ module _ (m : RootedModel) (units : List UnitPath) (tree : Tree) (b : Bound) (ha
       ∙ along_length (observers m units) b.observers.items has.observers_are
 
   -- parts over the bound forms
-  parts_of : (p : GtsParts) → IsOver b p → HasParts tree p
+  parts_of : (p : GtsParts) → IsOverBound b p → HasParts tree p
   parts_of p o = record {
     symbols = ap (λ v. length v.items) o.symbols ∙ symbols_long;
     units = ap (λ v. length v.items) o.units ∙ units_long;

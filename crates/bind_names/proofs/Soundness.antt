@@ -19,7 +19,7 @@ use Rattle.hierarchy.specs.declared.tree.Tree.{Tree}
 use Rattle.hierarchy.specs.declared.tree.VarNode.{VarNode}
 use Rattle.source_meaning.specs.SoundBound.{IsSoundAct}
 use Rattle.source_meaning.specs.SoundBound as sound
-use Rattle.bind_values.specs.Typed.{kind_of_node, kind_in, IsSymbolIn, IsTypedIn, IsSoundIn}
+use Rattle.bind_values.specs.Typed.{kind_of_node, kind_of_number, IsSymbolIn, IsTypedIn, IsSoundIn}
 use Rattle.bind_values.specs.Typed as typed
 use Rattle.bind_names.specs.ListBound.{IsSoundVariable}
 
@@ -43,7 +43,7 @@ module _ (tree : Tree) (p : GtsParts) (has : HasParts tree p) where
   named (value.Symbol k) h = let e = has.symbols in omega (arith, h, e)
 
   -- each variable has the kind of its node
-  same_kinds : kind_in tree ≡ variable_kind_at p
+  same_kinds : kind_of_number tree ≡ variable_kind_at p
   same_kinds = λ i x. found_kind has.variables x.n i
 
   pub typed_there : (e : Expr VarId) (k : ValueKind) → IsTypedIn tree e k → IsTyped p e k

@@ -7,7 +7,7 @@ use Rattle.ar_base.specs.NumbersInside.{UnitId}
 use Rattle.domains.specs.Domains.{Holds, values_of}
 use Rattle.domains.specs.declared.Value.{Value}
 use Rattle.domains.specs.declared.Value.TheVariants.{Truth}
-use Rattle.gts_core.specs.Readings.{value_at}
+use Rattle.gts_core.specs.Readings.{valuation_at}
 use Rattle.domains.specs.SameInside.{IsSameDomain}
 use Rattle.gts_core.specs.declared.system.Variable.{Variable}
 use Rattle.gts_core.proofs.SameDomains.{domain_there, value_there, value_back, same_values}
@@ -108,7 +108,7 @@ module _ (m : RootedModel) (units : List UnitPath) (tree : Tree) (tied : IsTreeO
   }
 
 -- a value that stands in a list is the one that is looked up
-pub value_found : (vs : List Value) (n : ℕ) (v : Value) → Stands vs n v → value_at vs n ≡ v
+pub value_found : (vs : List Value) (n : ℕ) (v : Value) → Stands vs n v → valuation_at vs n ≡ v
 value_found vs n v s = ap (λ (o : Option Value). unwrap_or o (Truth false)) s
 
 -- two lists that go along have their items at the same places in common

@@ -17,16 +17,16 @@ use Rattle.bind_names.specs.Ways.{IsBoundWay}
 
 -- the answer is the name of the event of which the member is a transition or a synchronisation, and none where it is
 -- neither
-abbrev pub NamesEvent : MemberForm → Option NameId → Type 0
-NamesEvent f None = (x : ℕ) → is_way_of x f ≡ false
-NamesEvent f (Some y) = (x : ℕ) → is_way_of x f ≡ (y.n == x)
+abbrev pub NamesEventOfMember : MemberForm → Option NameId → Type 0
+NamesEventOfMember f None = (x : ℕ) → is_way_of x f ≡ false
+NamesEventOfMember f (Some y) = (x : ℕ) → is_way_of x f ≡ (y.n == x)
 
 -- the answer is the bound way that the member of the unit u is, with the name of its event; none where the member is no
 -- way
 abbrev pub IsNamedWay : RootedModel → List UnitPath → Tree → UnitPath → MemberForm → Option (NameId × DeclaredWay)
     → Type 0
-IsNamedWay m units tree u f None = NamesEvent f None
-IsNamedWay m units tree u f (Some n) = NamesEvent f (Some n.0) × IsBoundWay m units tree u f n.1
+IsNamedWay m units tree u f None = NamesEventOfMember f None
+IsNamedWay m units tree u f (Some n) = NamesEventOfMember f (Some n.0) × IsBoundWay m units tree u f n.1
 
 -- the event has the path and the unit of the thing, and tells whether a hide clause names it
 pub record IsHead (m : RootedModel) (units : List UnitPath) (t : Thing) (e : DeclaredEvent) : Type 0 where

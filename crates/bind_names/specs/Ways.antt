@@ -51,5 +51,5 @@ pub record IsBoundWay (m : RootedModel) (units : List UnitPath) (tree : Tree) (u
   pub sound : IsSoundWay tree w
 
 -- each of these is a member of the unit u
-abbrev pub AreMembers : RootedModel → UnitPath → List MemberForm → Type 0
-AreMembers m u forms = (f : MemberForm) → IsOneOf forms f → IsOneOf (forms_at m u) f
+abbrev pub AreMembersOfUnit : RootedModel → UnitPath → List MemberForm → Type 0
+AreMembersOfUnit m u forms = (f : MemberForm) → IsOneOf forms f → IsOneOf (forms_at m u) f

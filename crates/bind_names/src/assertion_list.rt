@@ -22,6 +22,22 @@ use class_table::{Body, Owned, owned_at};
 use gts_core::Act;
 use std::alloc::Global;
 
+/// The instructions of the assertions of a tree, by unit and member. Each unit's members are read
+/// once. The error is want of memory.
+pub fn assertions(alloc: Global, scopes: &Scopes<'_>, values: &Values) -> Result<Vec<Act>, Memory>
+    requires { HasScopes scopes.now }
+    ensures { (m : RootedModel) (units : List UnitPath) → AreSettled m units scopes.now values.now
+        → IfOk result (λ v. AreBoundAssertions m units scopes.now.tree.now v.items) }
+{
+    let mut acts = Vec::new(alloc);
+    for (place, node) in scopes.tree.units.iter().enumerate() {
+        let unit = UnitId::new(place as u32);
+        let sites = members_of(&scopes.tree.classes, node.body);
+        add_all(&mut acts, alloc, scopes, values, unit, sites)?;
+    }
+    Ok(acts)
+}
+
 // The instruction of the assertion that stands there.
 fn asserted_at(bodies: &[Body], site: (BodyId, u32)) -> Option<&Instr>
     ensures { (d : Declared) → Along IsBodyOf bodies.now d.bodies
@@ -82,20 +98,4 @@ fn add_all(
         add_at(acts, alloc, scopes, values, unit, *site)?;
     }
     Ok(())
-}
-
-/// The instructions of the assertions of a tree, by unit and member. Each unit's members are read
-/// once. The error is want of memory.
-pub fn assertions(alloc: Global, scopes: &Scopes<'_>, values: &Values) -> Result<Vec<Act>, Memory>
-    requires { HasScopes scopes.now }
-    ensures { (m : RootedModel) (units : List UnitPath) → AreSettled m units scopes.now values.now
-        → IfOk result (λ v. AreBoundAssertions m units scopes.now.tree.now v.items) }
-{
-    let mut acts = Vec::new(alloc);
-    for (place, node) in scopes.tree.units.iter().enumerate() {
-        let unit = UnitId::new(place as u32);
-        let sites = members_of(&scopes.tree.classes, node.body);
-        add_all(&mut acts, alloc, scopes, values, unit, sites)?;
-    }
-    Ok(acts)
 }

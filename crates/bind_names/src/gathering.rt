@@ -11,7 +11,7 @@ ghost use Rattle.hierarchy.specs.Units.{UnitPath};
 ghost use Rattle.hierarchy.specs.Listing.{form_of, events as events_of};
 ghost use Rattle.bind_scopes.specs.Scopes.{HasScopes};
 ghost use Rattle.bind_values.specs.Settled.{AreSettled};
-ghost use Rattle.bind_names.specs.Ways.{AreMembers};
+ghost use Rattle.bind_names.specs.Ways.{AreMembersOfUnit};
 ghost use Rattle.bind_names.specs.Gathering.{HasWays, PutsWayIn, AddsMembers};
 ghost use Rattle.bind_names.specs.Bound.{IsBoundEvent};
 
@@ -24,6 +24,28 @@ use bind_values::Values;
 use class_table::{Owned, owned_at};
 use gts_core::{DeclaredEvent, DeclaredWay};
 use std::alloc::Global;
+
+/// Gives each of the events of a tree, which have none, its transitions and synchronisations in member
+/// order. The members of each unit are read once. The error is want of memory.
+pub(crate) fn add_ways(
+    events: &mut Vec<DeclaredEvent>,
+    alloc: Global,
+    scopes: &Scopes<'_>,
+    values: &Values,
+) -> Result<(), Memory>
+    requires { HasScopes scopes.now }
+    ensures { (m : RootedModel) (units : List UnitPath) → AreSettled m units scopes.now values.now
+        → Along (HasWays m units scopes.now.tree.now []) (events_of m units) events.old.items
+        → OnOk result (Along (IsBoundEvent m units scopes.now.tree.now) (events_of m units)
+        events.new.items) }
+{
+    for place in 0..scopes.tree.units.len() {
+        let unit = UnitId::new(place as u32);
+        let sites = sites_of(scopes.tree, unit);
+        add_all(events, alloc, scopes, values, unit, sites)?;
+    }
+    Ok(())
+}
 
 // Puts a way behind those of the event, where there is the event. For more ways than there are numbers
 // the event's unit would have more members than all bodies may have together.
@@ -54,7 +76,7 @@ fn add(
     requires in_range { unit.n < length scopes.now.tree.now.units.items }
     ensures { (m : RootedModel) (units : List UnitPath) (u : UnitPath)
         → AreSettled m units scopes.now values.now → Stands units unit.n u
-        → AreMembers m u (out-Member member.now ∷ [])
+        → AreMembersOfUnit m u (out-Member member.now ∷ [])
         → OnOk result (AddsMembers m units scopes.now.tree.now u (out-Member member.now ∷ [])
         events.old.items events.new.items) }
 {
@@ -81,7 +103,7 @@ fn add_at(
     requires in_range { unit.n < length scopes.now.tree.now.units.items }
     ensures { (m : RootedModel) (units : List UnitPath) (u : UnitPath)
         → AreSettled m units scopes.now values.now → Stands units unit.n u
-        → AreMembers m u (form_of (declared_at m.declared (site_of site)))
+        → AreMembersOfUnit m u (form_of (declared_at m.declared (site_of site)))
         → OnOk result (AddsMembers m units scopes.now.tree.now u
         (form_of (declared_at m.declared (site_of site))) events.old.items events.new.items) }
 {
@@ -105,7 +127,7 @@ fn add_all(
     requires in_range { unit.n < length scopes.now.tree.now.units.items }
     ensures { (m : RootedModel) (units : List UnitPath) (u : UnitPath)
         → AreSettled m units scopes.now values.now → Stands units unit.n u
-        → AreMembers m u
+        → AreMembersOfUnit m u
         (flat_map (λ s. form_of (declared_at m.declared s)) (map site_of sites.now))
         → OnOk result (AddsMembers m units scopes.now.tree.now u
         (flat_map (λ s. form_of (declared_at m.declared s)) (map site_of sites.now))
@@ -113,28 +135,6 @@ fn add_all(
 {
     for site in sites {
         add_at(events, alloc, scopes, values, unit, *site)?;
-    }
-    Ok(())
-}
-
-/// Gives each of the events of a tree, which have none, its transitions and synchronisations in member
-/// order. The members of each unit are read once. The error is want of memory.
-pub(crate) fn add_ways(
-    events: &mut Vec<DeclaredEvent>,
-    alloc: Global,
-    scopes: &Scopes<'_>,
-    values: &Values,
-) -> Result<(), Memory>
-    requires { HasScopes scopes.now }
-    ensures { (m : RootedModel) (units : List UnitPath) → AreSettled m units scopes.now values.now
-        → Along (HasWays m units scopes.now.tree.now []) (events_of m units) events.old.items
-        → OnOk result (Along (IsBoundEvent m units scopes.now.tree.now) (events_of m units)
-        events.new.items) }
-{
-    for place in 0..scopes.tree.units.len() {
-        let unit = UnitId::new(place as u32);
-        let sites = sites_of(scopes.tree, unit);
-        add_all(events, alloc, scopes, values, unit, sites)?;
     }
     Ok(())
 }

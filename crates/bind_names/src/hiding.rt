@@ -22,6 +22,22 @@ use bind_scopes::Scopes;
 use class_table::{Owned, owned_at};
 use std::alloc::Global;
 
+/// Of each event of a tree, whether a `hide` clause of some unit names it. The error is want of
+/// memory.
+pub(crate) fn hidden_events(alloc: Global, scopes: &Scopes<'_>) -> Result<Vec<bool>, Memory>
+    requires { HasScopes scopes.now }
+    ensures { (m : RootedModel) (units : List UnitPath) → IsTreeOf m units scopes.now.tree.now
+        → IfOk result (λ v. AreHidden m units v.items) }
+{
+    let mut marks = unset(alloc, scopes.tree.events.len())?;
+    for place in 0..scopes.tree.units.len() {
+        let unit = UnitId::new(place as u32);
+        let sites = sites_of(scopes.tree, unit);
+        hide_in(&mut marks, scopes, unit, sites);
+    }
+    Ok(marks)
+}
+
 // As many marks, none of them set.
 fn unset(alloc: Global, count: usize) -> Result<Vec<bool>, Memory>
     ensures { IfOk result (λ v. v.items ≡ replicate count false) }
@@ -92,20 +108,4 @@ fn hide_in(marks: &mut Vec<bool>, scopes: &Scopes<'_>, unit: UnitId, sites: &[(B
     for site in sites {
         hide_at(marks, scopes, unit, *site);
     }
-}
-
-/// Of each event of a tree, whether a `hide` clause of some unit names it. The error is want of
-/// memory.
-pub(crate) fn hidden_events(alloc: Global, scopes: &Scopes<'_>) -> Result<Vec<bool>, Memory>
-    requires { HasScopes scopes.now }
-    ensures { (m : RootedModel) (units : List UnitPath) → IsTreeOf m units scopes.now.tree.now
-        → IfOk result (λ v. AreHidden m units v.items) }
-{
-    let mut marks = unset(alloc, scopes.tree.events.len())?;
-    for place in 0..scopes.tree.units.len() {
-        let unit = UnitId::new(place as u32);
-        let sites = sites_of(scopes.tree, unit);
-        hide_in(&mut marks, scopes, unit, sites);
-    }
-    Ok(marks)
 }

@@ -21,6 +21,26 @@ use bind_values::Values;
 use gts_core::DeclaredEvent;
 use std::alloc::Global;
 
+/// The events of a tree, in its order, where these are their canonical paths: each with its path and
+/// unit, whether a `hide` clause names it, and its transitions and synchronisations in member order.
+/// The error is want of memory.
+pub fn events(
+    alloc: Global,
+    scopes: &Scopes<'_>,
+    values: &Values,
+    paths: &[Text],
+) -> Result<Vec<DeclaredEvent>, Memory>
+    requires { HasScopes scopes.now }
+    ensures { (m : RootedModel) (units : List UnitPath) → AreSettled m units scopes.now values.now
+        → paths.now ≡ map (thing_path m) (events_of m units)
+        → IfOk result (λ v. Along (IsBoundEvent m units scopes.now.tree.now) (events_of m units)
+        v.items) }
+{
+    let mut events = heads(alloc, scopes, paths)?;
+    add_ways(&mut events, alloc, scopes, values)?;
+    Ok(events)
+}
+
 // The events of a tree without their ways, where these are their canonical paths.
 fn heads(alloc: Global, scopes: &Scopes<'_>, paths: &[Text]) -> Result<Vec<DeclaredEvent>, Memory>
     requires { HasScopes scopes.now }
@@ -42,25 +62,5 @@ fn heads(alloc: Global, scopes: &Scopes<'_>, paths: &[Text]) -> Result<Vec<Decla
             ways,
         })?;
     }
-    Ok(events)
-}
-
-/// The events of a tree, in its order, where these are their canonical paths: each with its path and
-/// unit, whether a `hide` clause names it, and its transitions and synchronisations in member order.
-/// The error is want of memory.
-pub fn events(
-    alloc: Global,
-    scopes: &Scopes<'_>,
-    values: &Values,
-    paths: &[Text],
-) -> Result<Vec<DeclaredEvent>, Memory>
-    requires { HasScopes scopes.now }
-    ensures { (m : RootedModel) (units : List UnitPath) → AreSettled m units scopes.now values.now
-        → paths.now ≡ map (thing_path m) (events_of m units)
-        → IfOk result (λ v. Along (IsBoundEvent m units scopes.now.tree.now) (events_of m units)
-        v.items) }
-{
-    let mut events = heads(alloc, scopes, paths)?;
-    add_ways(&mut events, alloc, scopes, values)?;
     Ok(events)
 }

@@ -20,6 +20,28 @@ use gts_core::Observer;
 use hierarchy::MemNode;
 use std::alloc::Global;
 
+/// The observers of a tree, in its order, where this is what stands before names in its units: each
+/// with its path, the kind of its type and its expression. The error is want of memory.
+pub fn observers(
+    alloc: Global,
+    scopes: &Scopes<'_>,
+    values: &Values,
+    prefixes: &[Text],
+) -> Result<Vec<Observer>, Memory>
+    requires { HasScopes scopes.now }
+    ensures { (m : RootedModel) (units : List UnitPath) → AreSettled m units scopes.now values.now
+        → prefixes.now ≡ map (prefix m) units
+        → IfOk result (λ v. Along (IsBoundObserver m units scopes.now.tree.now)
+        (observers_of m units) v.items) }
+{
+    let mut observers = Vec::new(alloc);
+    for node in &scopes.tree.observers {
+        let observer = observer_of(alloc, scopes, values, prefixes, node)?;
+        observers.push(observer)?;
+    }
+    Ok(observers)
+}
+
 // The observer of a node of the tree by numbers.
 fn observer_of(
     alloc: Global,
@@ -45,26 +67,4 @@ fn observer_of(
     let value = expression(alloc, scopes, values, node.unit, written)?;
     let path = thing_path(alloc, scopes.tree, prefixes, node)?;
     Ok(Observer { path, kind, value })
-}
-
-/// The observers of a tree, in its order, where this is what stands before names in its units: each
-/// with its path, the kind of its type and its expression. The error is want of memory.
-pub fn observers(
-    alloc: Global,
-    scopes: &Scopes<'_>,
-    values: &Values,
-    prefixes: &[Text],
-) -> Result<Vec<Observer>, Memory>
-    requires { HasScopes scopes.now }
-    ensures { (m : RootedModel) (units : List UnitPath) → AreSettled m units scopes.now values.now
-        → prefixes.now ≡ map (prefix m) units
-        → IfOk result (λ v. Along (IsBoundObserver m units scopes.now.tree.now)
-        (observers_of m units) v.items) }
-{
-    let mut observers = Vec::new(alloc);
-    for node in &scopes.tree.observers {
-        let observer = observer_of(alloc, scopes, values, prefixes, node)?;
-        observers.push(observer)?;
-    }
-    Ok(observers)
 }

@@ -5,6 +5,21 @@ use ar_base::{Memory, Names, UnitId};
 use hierarchy::{MemNode, Tree};
 use std::alloc::Global;
 
+/// The bytes of the paths of all units, variables, events and observers, and of what stands before
+/// names in units. The error is want of memory.
+pub(crate) fn path_bytes(alloc: Global, tree: &Tree) -> Result<usize, Memory> {
+    let names = &tree.classes.names;
+    let fronts = front_bytes(alloc, tree)?;
+    let mut total = variables_bytes(tree, &fronts)
+        .saturating_add(things_bytes(names, &fronts, &tree.events))
+        .saturating_add(things_bytes(names, &fronts, &tree.observers));
+    // Each unit has its path, and what stands before names in it.
+    for bytes in &fronts {
+        total = total.saturating_add(*bytes).saturating_add(*bytes);
+    }
+    Ok(total)
+}
+
 // The number at the place of a unit, 0 past the end.
 fn bytes_there(fronts: &[usize], unit: UnitId) -> usize {
     match fronts.get(unit.n as usize) {
@@ -50,19 +65,4 @@ fn variables_bytes(tree: &Tree, fronts: &[usize]) -> usize {
         total = total.saturating_add(thing_bytes(&tree.classes.names, fronts, &variable.node));
     }
     total
-}
-
-/// The bytes of the paths of all units, variables, events and observers, and of what stands before
-/// names in units. The error is want of memory.
-pub(crate) fn path_bytes(alloc: Global, tree: &Tree) -> Result<usize, Memory> {
-    let names = &tree.classes.names;
-    let fronts = front_bytes(alloc, tree)?;
-    let mut total = variables_bytes(tree, &fronts)
-        .saturating_add(things_bytes(names, &fronts, &tree.events))
-        .saturating_add(things_bytes(names, &fronts, &tree.observers));
-    // Each unit has its path, and what stands before names in it.
-    for bytes in &fronts {
-        total = total.saturating_add(*bytes).saturating_add(*bytes);
-    }
-    Ok(total)
 }

@@ -7,7 +7,7 @@ ghost use Rattle.class_table.specs.Members.{NamedMember};
 ghost use Rattle.hierarchy.specs.Listing.{events};
 ghost use Rattle.hierarchy.specs.Models.{RootedModel};
 ghost use Rattle.hierarchy.specs.Paths.{prefix, unit_path, thing_path};
-ghost use Rattle.hierarchy.specs.Tie.{IsTreeOf, IsNode, IsOwner, IsNameOfUnit};
+ghost use Rattle.hierarchy.specs.Tie.{IsTreeOf, IsThingNode, IsOwner, IsNameOfUnit};
 ghost use Rattle.hierarchy.specs.Units.{UnitPath, Thing};
 ghost use Rattle.bind_names.specs.Fronts.{HasFrontAbove};
 
@@ -126,7 +126,7 @@ pub fn thing_path(
 ) -> Result<Text, Memory>
     ensures { (m : RootedModel) (units : List UnitPath) (t : Thing) (g : NamedMember)
         → IsTreeOf m units tree.now → prefixes.now ≡ map (prefix m) units
-        → IsNode m units t g node.now → IfOk result (λ path. path ≡ thing_path m t) }
+        → IsThingNode m units t g node.now → IfOk result (λ path. path ≡ thing_path m t) }
 {
     let path = path_in(alloc, &tree.classes.names, prefixes, node.unit, node.name)?;
     Ok(Text::new(path))

@@ -23,6 +23,36 @@ use bind_values::{Values, action as bind_action, expression};
 use gts_core::DeclaredWay;
 use std::alloc::Global;
 
+/// The transition or the synchronisation that a member is, with the name of its event. None of a
+/// member that is neither.
+pub(crate) fn way_of(
+    alloc: Global,
+    scopes: &Scopes<'_>,
+    values: &Values,
+    unit: UnitId,
+    member: &Member,
+) -> Result<Option<(NameId, DeclaredWay)>, Memory>
+    requires scopes { HasScopes scopes.now }
+    requires in_range { unit.n < length scopes.now.tree.now.units.items }
+    ensures { (m : RootedModel) (units : List UnitPath) (u : UnitPath)
+        → AreSettled m units scopes.now values.now → Stands units unit.n u
+        → IsOneOf (forms_at m u) (out-Member member.now)
+        → IfOk result (IsNamedWay m units scopes.now.tree.now u (out-Member member.now)) }
+{
+    match member {
+        Member::Local(name, _, guard, action) => {
+            let test = expression(alloc, scopes, values, unit, guard)?;
+            let act = bind_action(alloc, scopes, values, unit, action)?;
+            Ok(Some((*name, DeclaredWay::Local(test, act))))
+        }
+        Member::Sync(name, at, parts) => {
+            let bound = parts_of(alloc, scopes, unit, parts)?;
+            Ok(Some((*name, DeclaredWay::Sync(bound, *at))))
+        }
+        _ => Ok(None),
+    }
+}
+
 // Adds a part of a synchronisation, where it names an event.
 fn add_part(
     bound: &mut Vec<(bool, EventId)>,
@@ -65,34 +95,4 @@ fn parts_of(
         add_part(&mut bound, scopes, unit, part)?;
     }
     Ok(bound)
-}
-
-/// The transition or the synchronisation that a member is, with the name of its event. None of a
-/// member that is neither.
-pub(crate) fn way_of(
-    alloc: Global,
-    scopes: &Scopes<'_>,
-    values: &Values,
-    unit: UnitId,
-    member: &Member,
-) -> Result<Option<(NameId, DeclaredWay)>, Memory>
-    requires scopes { HasScopes scopes.now }
-    requires in_range { unit.n < length scopes.now.tree.now.units.items }
-    ensures { (m : RootedModel) (units : List UnitPath) (u : UnitPath)
-        → AreSettled m units scopes.now values.now → Stands units unit.n u
-        → IsOneOf (forms_at m u) (out-Member member.now)
-        → IfOk result (IsNamedWay m units scopes.now.tree.now u (out-Member member.now)) }
-{
-    match member {
-        Member::Local(name, _, guard, action) => {
-            let test = expression(alloc, scopes, values, unit, guard)?;
-            let act = bind_action(alloc, scopes, values, unit, action)?;
-            Ok(Some((*name, DeclaredWay::Local(test, act))))
-        }
-        Member::Sync(name, at, parts) => {
-            let bound = parts_of(alloc, scopes, unit, parts)?;
-            Ok(Some((*name, DeclaredWay::Sync(bound, *at))))
-        }
-        _ => Ok(None),
-    }
 }

@@ -24,7 +24,7 @@ use Rattle.hierarchy.specs.Walks.{PassesTest, thing, is_event}
 use Rattle.hierarchy.specs.Listing.{events}
 use Rattle.hierarchy.specs.Tie.{AnswersThing}
 use Rattle.bind_scopes.proofs.NamedPaths.{name_leads, name_only}
-use Rattle.bind_rules.specs.Breaking.{IsNoEvent, HasNoEvent, IsNoOwnEvent, MisnamesEvent, hides, part, sync, local}
+use Rattle.bind_rules.specs.Breaking.{IsNoEvent, PartNamesNoEvent, IsNoOwnEvent, MisnamesEvent, hides, part, sync, local}
 
 module _ {m : RootedModel} (units : List UnitPath) {u : UnitPath} where
   pub event_there : (p : Path) (n : ℕ)
@@ -51,11 +51,11 @@ module _ {m : RootedModel} (units : List UnitPath) {u : UnitPath} where
 module _ (m : RootedModel) (u : UnitPath) where
   -- parts
   pub part_to : (parts : List Part) (k : ℕ) (p : Part) (at : Place) → Stands parts k p
-      → IsNoEvent m u p.event at → HasNoEvent m u parts at
+      → IsNoEvent m u p.event at → PartNamesNoEvent m u parts at
   part_to parts k p at st h = record { part = p; is_one = one_here parts k p st; no_event = h }
 
   pub part_back : (parts : List Part) (at : Place)
-      → HasNoEvent m u parts at → (k : ℕ)
+      → PartNamesNoEvent m u parts at → (k : ℕ)
       × AtItem parts (λ (j : ℕ) (p : Part) (q : Place). IsNoEvent m u p.event q) k at
   part_back parts at h = (h.is_one.place, record { item = h.part; stands = h.is_one.stands; has = h.no_event })
 
@@ -79,18 +79,18 @@ module _ (m : RootedModel) (u : UnitPath) where
       (earliest_same r (λ at h. local h) (λ at h. local_back h) k)
 
   sync_to : {x : NameId} {here at : Place} {parts : Vec Part Global}
-      → IsNoOwnEvent m u x here at ⊎ HasNoEvent m u parts.items at → MisnamesEvent m u (member.Sync x here parts) at
+      → IsNoOwnEvent m u x here at ⊎ PartNamesNoEvent m u parts.items at → MisnamesEvent m u (member.Sync x here parts) at
   sync_to (inl h) = sync h
   sync_to (inr h) = part h
 
   sync_back : {x : NameId} {here at : Place} {parts : Vec Part Global}
-      → MisnamesEvent m u (member.Sync x here parts) at → IsNoOwnEvent m u x here at ⊎ HasNoEvent m u parts.items at
+      → MisnamesEvent m u (member.Sync x here parts) at → IsNoOwnEvent m u x here at ⊎ PartNamesNoEvent m u parts.items at
   sync_back (sync h) = inl h
   sync_back (part h) = inr h
 
   pub sync_misnamed : (f : MemberForm) (x : NameId) (here : Place) (parts : Vec Part Global) (g k r : Option Place)
       → f ≡ member.Sync x here parts → IsEarliest (IsNoOwnEvent m u x here) g
-      → IsEarliest (HasNoEvent m u parts.items) k → IsEarlierOf g k r → IsEarliest (MisnamesEvent m u f) r
+      → IsEarliest (PartNamesNoEvent m u parts.items) k → IsEarlierOf g k r → IsEarliest (MisnamesEvent m u f) r
   sync_misnamed f x here parts g k r e a c o =
       subst (λ (z : MemberForm). IsEarliest (MisnamesEvent m u z) r) (sym e)
       (earliest_same r (λ at h. sync_to h) (λ at h. sync_back h) (earliest_both g k r a c o))

@@ -45,7 +45,7 @@ use Rattle.bind_scopes.specs.declared.scopes.Scope.TheVariants as scope
 use Rattle.bind_scopes.proofs.Kinding.{domain_kind, parameter_kind}
 use Rattle.bind_scopes.proofs.NamedPaths.{kind_one, one_of_kind}
 use Rattle.bind_scopes.proofs.Siting.{force_own}
-use Rattle.bind_rules.specs.Breaking.{BreaksExpression, BreaksValue, BreaksParameter, BreaksObserver, BreaksOne}
+use Rattle.bind_rules.specs.Breaking.{BreaksExpression, BreaksValueInForce, BreaksParameter, BreaksObserver, BreaksThing}
 use Rattle.bind_rules.specs.Owning.{IsOwnScope, scope_by, observed_form, observed_in}
 use Rattle.bind_rules.specs.declared.rules.Rule.{Rule}
 
@@ -64,10 +64,10 @@ module _ (things : List Thing) (P : Thing → Place → Type 0) where
       (λ at b. subst (λ (z : Thing). P z at) (stands_one things n b.thing t b.stands s) b.breaks) h
 
   module _ {A : Type 0} {R : Thing → A → Type 0} (nodes : List A) (along : Along R things nodes) where
-    pub thing_to : (k : ℕ) (d : A) (at : Place) → Stands nodes k d → BreaksAt k at → BreaksOne things P at
+    pub thing_to : (k : ℕ) (d : A) (at : Place) → Stands nodes k d → BreaksAt k at → BreaksThing things P at
     thing_to k d at s b = record { thing = b.thing; is_one = one_here things k b.thing b.stands; breaks = b.breaks }
 
-    pub thing_back : (at : Place) → BreaksOne things P at → (k : ℕ)
+    pub thing_back : (at : Place) → BreaksThing things P at → (k : ℕ)
         × AtItem nodes (λ (j : ℕ) (d : A) (q : Place). BreaksAt j q) k at
     thing_back at b =
         let a = along_on things nodes along b.is_one.place b.thing b.is_one.stands in (
@@ -85,16 +85,16 @@ module _ (m : RootedModel) (rule : Rule) (t : Thing) (a : Attribute) (force : in
     (is : IsOfKind m t kind) where
   pub value_earliest : (e : RawExpr) → a.value ≡ e → (r : Option Place)
       → IsEarliest (BreaksExpression m rule a.unit (s.scope_of t.name a.setting) kind e) r
-      → IsEarliest (BreaksValue m rule t) r
+      → IsEarliest (BreaksValueInForce m rule t) r
   value_earliest e q r h = earliest_same r to from
       (subst (λ (z : RawExpr). IsEarliest (BreaksExpression m rule a.unit (s.scope_of t.name a.setting) kind z) r)
       (sym q) h)
     where
-      to : (at : Place) → BreaksExpression m rule a.unit (s.scope_of t.name a.setting) kind a.value at → BreaksValue m
+      to : (at : Place) → BreaksExpression m rule a.unit (s.scope_of t.name a.setting) kind a.value at → BreaksValueInForce m
           rule t at
       to at b = record { attribute = a; in_force = force; kind = kind; is_kind = is; breaks = b }
 
-      from : (at : Place) → BreaksValue m rule t at → BreaksExpression m rule a.unit (s.scope_of t.name a.setting) kind
+      from : (at : Place) → BreaksValueInForce m rule t at → BreaksExpression m rule a.unit (s.scope_of t.name a.setting) kind
           a.value at
       from at b =
           let i = kind_one b.in_force force in
@@ -157,7 +157,7 @@ module _ (m : RootedModel) (units : List UnitPath) (t : Thing) (d : ParNode) (h 
     kind = parameter_kind m h.given.kind d.domain given_valued h.domain ∙ ap (λ (z : ValueKind). Some z) (sym e);
   }
 
-  pub parameter_earliest : (rule : Rule) (r : Option Place) → IsEarliest (BreaksValue m rule t) r
+  pub parameter_earliest : (rule : Rule) (r : Option Place) → IsEarliest (BreaksValueInForce m rule t) r
       → IsEarliest (BreaksParameter m rule t) r
   parameter_earliest rule r k = earliest_same r (λ at b. record { valued = v; breaks = b }) (λ at b. b.breaks) k
 

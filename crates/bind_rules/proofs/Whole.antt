@@ -22,7 +22,7 @@ use Rattle.source_meaning.specs.Tested as s
 use Rattle.source_meaning.specs.Rules as r
 use Rattle.source_meaning.specs.Rules.{BreaksNaming, BreaksKinds, BreaksTargets, IsWayOf}
 use Rattle.hierarchy.specs.Walks.{PassesTest, thing, is_event}
-use Rattle.bind_rules.specs.Breaking.{BreaksExpression, BreaksAction, BreaksAssertion, BreaksValue, BreaksParameter, BreaksObserver, BreaksOne, BreaksUnit, BreaksMember, event, guard, action, assertion, BreaksTree, variable, parameter, observer, unit, MisnamesEvent, hides, part, sync, local}
+use Rattle.bind_rules.specs.Breaking.{BreaksExpression, BreaksAction, BreaksAssertion, BreaksValueInForce, BreaksParameter, BreaksObserver, BreaksThing, BreaksUnit, BreaksMember, event, guard, action, assertion, BreaksTree, variable, parameter, observer, unit, MisnamesEvent, hides, part, sync, local}
 use Rattle.bind_rules.specs.declared.rules.Rule.{Rule}
 use Rattle.bind_rules.specs.declared.rules.Rule.TheVariants.{Names, Kinds, Targets}
 
@@ -185,8 +185,8 @@ module _ (m : RootedModel) (units : List UnitPath) where
 
   -- all parts
   tree_of_four : (rule : Rule) (at : Place)
-      → (BreaksOne (variables m units) (BreaksValue m rule) at ⊎ BreaksOne (parameters m units) (BreaksParameter m rule)
-      at) ⊎ (BreaksOne (observers m units) (BreaksObserver m rule) at ⊎ BreaksUnit m units rule at)
+      → (BreaksThing (variables m units) (BreaksValueInForce m rule) at ⊎ BreaksThing (parameters m units) (BreaksParameter m rule)
+      at) ⊎ (BreaksThing (observers m units) (BreaksObserver m rule) at ⊎ BreaksUnit m units rule at)
       → BreaksTree m units rule at
   tree_of_four rule at (inl (inl h)) = variable h
   tree_of_four rule at (inl (inr h)) = parameter h
@@ -194,17 +194,17 @@ module _ (m : RootedModel) (units : List UnitPath) where
   tree_of_four rule at (inr (inr h)) = unit h
 
   four_of_tree : (rule : Rule) (at : Place) → BreaksTree m units rule at
-      → (BreaksOne (variables m units) (BreaksValue m rule) at ⊎ BreaksOne (parameters m units) (BreaksParameter m rule)
-      at) ⊎ (BreaksOne (observers m units) (BreaksObserver m rule) at ⊎ BreaksUnit m units rule at)
+      → (BreaksThing (variables m units) (BreaksValueInForce m rule) at ⊎ BreaksThing (parameters m units) (BreaksParameter m rule)
+      at) ⊎ (BreaksThing (observers m units) (BreaksObserver m rule) at ⊎ BreaksUnit m units rule at)
   four_of_tree rule at (variable h) = inl (inl h)
   four_of_tree rule at (parameter h) = inl (inr h)
   four_of_tree rule at (observer h) = inr (inl h)
   four_of_tree rule at (unit h) = inr (inr h)
 
   pub tree_earliest : (rule : Rule) (a b c d e f g : Option Place)
-      → IsEarliest (BreaksOne (variables m units) (BreaksValue m rule)) a
-      → IsEarliest (BreaksOne (parameters m units) (BreaksParameter m rule)) b
-      → IsEarlierOf a b c → IsEarliest (BreaksOne (observers m units) (BreaksObserver m rule)) d
+      → IsEarliest (BreaksThing (variables m units) (BreaksValueInForce m rule)) a
+      → IsEarliest (BreaksThing (parameters m units) (BreaksParameter m rule)) b
+      → IsEarlierOf a b c → IsEarliest (BreaksThing (observers m units) (BreaksObserver m rule)) d
       → IsEarliest (BreaksUnit m units rule) e → IsEarlierOf d e f → IsEarlierOf c f g
       → IsEarliest (BreaksTree m units rule) g
   tree_earliest rule a b c d e f g h k o n l p q =

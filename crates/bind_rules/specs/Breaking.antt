@@ -56,7 +56,7 @@ pub record IsNoEvent (m : RootedModel) (u : UnitPath) (p : Path) (at : Place) : 
   pub place : at ≡ p.at
 
 -- a part of a synchronisation names no event
-pub record HasNoEvent (m : RootedModel) (u : UnitPath) (parts : List Part) (at : Place) : Type 0 where
+pub record PartNamesNoEvent (m : RootedModel) (u : UnitPath) (parts : List Part) (at : Place) : Type 0 where
   pub part : Part
   pub is_one : IsOneOf parts part
   pub no_event : IsNoEvent m u part.event at
@@ -70,7 +70,7 @@ pub record IsNoOwnEvent (m : RootedModel) (u : UnitPath) (x : NameId) (here at :
 pub data MisnamesEvent (m : RootedModel) (u : UnitPath) : MemberForm → Place → Type 0 where
   hides : {p : Path} {at : Place} → IsNoEvent m u p at → MisnamesEvent m u (member.Hide p) at
   part : {x : NameId} {here : Place} {parts : Vec Part Global} {at : Place}
-      → HasNoEvent m u parts.items at → MisnamesEvent m u (member.Sync x here parts) at
+      → PartNamesNoEvent m u parts.items at → MisnamesEvent m u (member.Sync x here parts) at
   sync : {x : NameId} {here : Place} {parts : Vec Part Global} {at : Place}
       → IsNoOwnEvent m u x here at → MisnamesEvent m u (member.Sync x here parts) at
   local : {x : NameId} {here : Place} {guard : RawExpr} {action : Instr} {at : Place}
@@ -108,7 +108,7 @@ pub record BreaksUnit (m : RootedModel) (units : List UnitPath) (rule : Rule) (a
   pub breaks : BreaksOneMember m rule unit (forms_at m unit) at
 
 -- the value in force of the thing breaks the rule at the place
-pub record BreaksValue (m : RootedModel) (rule : Rule) (t : Thing) (at : Place) : Type 0 where
+pub record BreaksValueInForce (m : RootedModel) (rule : Rule) (t : Thing) (at : Place) : Type 0 where
   pub attribute : Attribute
   pub in_force : in_force m t ≡ Some attribute
   pub kind : ValueKind
@@ -118,7 +118,7 @@ pub record BreaksValue (m : RootedModel) (rule : Rule) (t : Thing) (at : Place) 
 -- the same of a parameter, where its value is read
 pub record BreaksParameter (m : RootedModel) (rule : Rule) (t : Thing) (at : Place) : Type 0 where
   pub valued : PassesTest m is_valued t
-  pub breaks : BreaksValue m rule t at
+  pub breaks : BreaksValueInForce m rule t at
 
 -- the expression of the observer breaks the rule at the place
 pub record BreaksObserver (m : RootedModel) (rule : Rule) (t : Thing) (at : Place) : Type 0 where
@@ -130,14 +130,14 @@ pub record BreaksObserver (m : RootedModel) (rule : Rule) (t : Thing) (at : Plac
   pub breaks : BreaksExpression m rule t.unit Everything kind written at
 
 -- one of these things has P at the place
-pub record BreaksOne (things : List Thing) (P : Thing → Place → Type 0) (at : Place) : Type 0 where
+pub record BreaksThing (things : List Thing) (P : Thing → Place → Type 0) (at : Place) : Type 0 where
   pub thing : Thing
   pub is_one : IsOneOf things thing
   pub breaks : P thing at
 
 -- the tree breaks the rule at the place
 pub data BreaksTree (m : RootedModel) (units : List UnitPath) (rule : Rule) (at : Place) : Type 0 where
-  variable : BreaksOne (variables m units) (BreaksValue m rule) at → BreaksTree m units rule at
-  parameter : BreaksOne (parameters m units) (BreaksParameter m rule) at → BreaksTree m units rule at
-  observer : BreaksOne (observers m units) (BreaksObserver m rule) at → BreaksTree m units rule at
+  variable : BreaksThing (variables m units) (BreaksValueInForce m rule) at → BreaksTree m units rule at
+  parameter : BreaksThing (parameters m units) (BreaksParameter m rule) at → BreaksTree m units rule at
+  observer : BreaksThing (observers m units) (BreaksObserver m rule) at → BreaksTree m units rule at
   unit : BreaksUnit m units rule at → BreaksTree m units rule at

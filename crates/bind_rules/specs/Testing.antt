@@ -11,7 +11,7 @@ use Rattle.source_meaning.specs.Kinds.{IsOfKind}
 use Rattle.bind_scopes.specs.Scopes.{AreScopes}
 use Rattle.bind_scopes.specs.declared.scopes.Scope.TheVariants.{Constants}
 use Rattle.bind_scopes.specs.declared.scopes.Scopes.{Scopes}
-use Rattle.bind_rules.specs.Breaking.{BreaksValue}
+use Rattle.bind_rules.specs.Breaking.{BreaksValueInForce}
 use Rattle.bind_rules.specs.Owning.{IsOwnScope}
 use Rattle.bind_rules.specs.declared.rules.Rule.{Rule}
 
@@ -19,4 +19,4 @@ use Rattle.bind_rules.specs.declared.rules.Rule.{Rule}
 pub record IsTested (s : Scopes) (rule : Rule) (test : Attribute × ValueKind × Option Place) : Type 0 where
   pub place : (m : RootedModel) (units : List UnitPath) (t : Thing) → AreScopes m units s
       → IsOwnScope m units t Constants → HasAttribute m units t test.0 → IsOfKind m t test.1
-      → IsEarliest (BreaksValue m rule t) test.2
+      → IsEarliest (BreaksValueInForce m rule t) test.2

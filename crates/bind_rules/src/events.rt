@@ -8,57 +8,13 @@ ghost use Rattle.hierarchy.specs.Models.{RootedModel};
 ghost use Rattle.hierarchy.specs.Units.{UnitPath};
 ghost use Rattle.hierarchy.specs.Tie.{IsTreeOf};
 ghost use Rattle.bind_scopes.specs.Scopes.{HasScopes};
-ghost use Rattle.bind_rules.specs.Breaking.{IsNoEvent, HasNoEvent, IsNoOwnEvent, BreaksEvent};
+ghost use Rattle.bind_rules.specs.Breaking.{IsNoEvent, PartNamesNoEvent, IsNoOwnEvent, BreaksEvent};
 
 use crate::rules::Rule;
 use ar_base::{NameId, Place, UnitId};
 use ar_syntax::{Member, Part, Path, PathStart};
 use bind_scopes::Scopes;
 use class_table::earliest::earliest;
-
-// The place of the path, where it names no event.
-fn no_event(scopes: &Scopes<'_>, unit: UnitId, path: &Path) -> Option<Place>
-    requires scopes { HasScopes scopes.now }
-    requires in_range { unit.n < length scopes.now.tree.now.units.items }
-    ensures { (m : RootedModel) (units : List UnitPath) (u : UnitPath)
-        → IsTreeOf m units scopes.now.tree.now → Stands units unit.n u
-        → IsEarliest (IsNoEvent m u path.now) result }
-{
-    match scopes.event_at(unit, path.start, &path.names) {
-        Some(_) => None,
-        None => Some(path.at),
-    }
-}
-
-// The earliest place of a part that names no event.
-fn no_event_in(scopes: &Scopes<'_>, unit: UnitId, parts: &[Part]) -> Option<Place>
-    requires scopes { HasScopes scopes.now }
-    requires in_range { unit.n < length scopes.now.tree.now.units.items }
-    ensures { (m : RootedModel) (units : List UnitPath) (u : UnitPath)
-        → IsTreeOf m units scopes.now.tree.now → Stands units unit.n u
-        → IsEarliest (HasNoEvent m u parts.now) result }
-{
-    let mut found = None;
-    for part in parts {
-        found = earliest(found, no_event(scopes, unit, &part.event));
-    }
-    found
-}
-
-// The place of the name, where it is no event of the unit.
-fn no_own_event(scopes: &Scopes<'_>, unit: UnitId, name: NameId, at: Place) -> Option<Place>
-    requires scopes { HasScopes scopes.now }
-    requires in_range { unit.n < length scopes.now.tree.now.units.items }
-    ensures { (m : RootedModel) (units : List UnitPath) (u : UnitPath)
-        → IsTreeOf m units scopes.now.tree.now → Stands units unit.n u
-        → IsEarliest (IsNoOwnEvent m u name at) result }
-{
-    let names = [name];
-    match scopes.event_at(unit, PathStart::Here, &names) {
-        Some(_) => None,
-        None => Some(at),
-    }
-}
 
 /// The earliest place at which the member breaks the rule by a name of an event.
 pub(crate) fn in_event(
@@ -85,5 +41,49 @@ pub(crate) fn in_event(
         },
         Rule::Kinds => None,
         Rule::Targets => None,
+    }
+}
+
+// The place of the path, where it names no event.
+fn no_event(scopes: &Scopes<'_>, unit: UnitId, path: &Path) -> Option<Place>
+    requires scopes { HasScopes scopes.now }
+    requires in_range { unit.n < length scopes.now.tree.now.units.items }
+    ensures { (m : RootedModel) (units : List UnitPath) (u : UnitPath)
+        → IsTreeOf m units scopes.now.tree.now → Stands units unit.n u
+        → IsEarliest (IsNoEvent m u path.now) result }
+{
+    match scopes.event_at(unit, path.start, &path.names) {
+        Some(_) => None,
+        None => Some(path.at),
+    }
+}
+
+// The earliest place of a part that names no event.
+fn no_event_in(scopes: &Scopes<'_>, unit: UnitId, parts: &[Part]) -> Option<Place>
+    requires scopes { HasScopes scopes.now }
+    requires in_range { unit.n < length scopes.now.tree.now.units.items }
+    ensures { (m : RootedModel) (units : List UnitPath) (u : UnitPath)
+        → IsTreeOf m units scopes.now.tree.now → Stands units unit.n u
+        → IsEarliest (PartNamesNoEvent m u parts.now) result }
+{
+    let mut found = None;
+    for part in parts {
+        found = earliest(found, no_event(scopes, unit, &part.event));
+    }
+    found
+}
+
+// The place of the name, where it is no event of the unit.
+fn no_own_event(scopes: &Scopes<'_>, unit: UnitId, name: NameId, at: Place) -> Option<Place>
+    requires scopes { HasScopes scopes.now }
+    requires in_range { unit.n < length scopes.now.tree.now.units.items }
+    ensures { (m : RootedModel) (units : List UnitPath) (u : UnitPath)
+        → IsTreeOf m units scopes.now.tree.now → Stands units unit.n u
+        → IsEarliest (IsNoOwnEvent m u name at) result }
+{
+    let names = [name];
+    match scopes.event_at(unit, PathStart::Here, &names) {
+        Some(_) => None,
+        None => Some(at),
     }
 }

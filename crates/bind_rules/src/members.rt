@@ -23,6 +23,21 @@ use class_table::earliest::earliest;
 use class_table::{Owned, owned_at};
 use typed_expr::ValueKind;
 
+/// The earliest place at which a member of some unit breaks the rule.
+pub(crate) fn in_units<'a>(scopes: &'a Scopes<'a>, rule: Rule) -> Option<Place>
+    requires { HasScopes scopes.now }
+    ensures { (m : RootedModel) (units : List UnitPath) → AreScopes m units scopes.now
+        → IsEarliest (BreaksUnit m units rule) result }
+{
+    let mut found = None;
+    for (place, node) in scopes.tree.units.iter().enumerate() {
+        let unit = UnitId::new(place as u32);
+        let sites = members_of(&scopes.tree.classes, node.body);
+        found = earliest(found, in_sites(scopes, rule, unit, sites));
+    }
+    found
+}
+
 // The earliest place at which the member breaks the rule.
 fn in_member<'a>(scopes: &'a Scopes<'a>, rule: Rule, unit: UnitId, member: &Member) -> Option<Place>
     requires scopes { HasScopes scopes.now }
@@ -65,21 +80,6 @@ fn in_sites<'a>(
             Some(Owned::Plain(member)) => in_member(scopes, rule, unit, member),
         };
         found = earliest(found, here);
-    }
-    found
-}
-
-/// The earliest place at which a member of some unit breaks the rule.
-pub(crate) fn in_units<'a>(scopes: &'a Scopes<'a>, rule: Rule) -> Option<Place>
-    requires { HasScopes scopes.now }
-    ensures { (m : RootedModel) (units : List UnitPath) → AreScopes m units scopes.now
-        → IsEarliest (BreaksUnit m units rule) result }
-{
-    let mut found = None;
-    for (place, node) in scopes.tree.units.iter().enumerate() {
-        let unit = UnitId::new(place as u32);
-        let sites = members_of(&scopes.tree.classes, node.body);
-        found = earliest(found, in_sites(scopes, rule, unit, sites));
     }
     found
 }

@@ -25,6 +25,16 @@ pub(crate) enum Rule {
     Targets,
 }
 
+/// The earliest place at which something in the tree names nothing of the kind that is needed
+/// (L10). Takes no memory.
+pub fn first_misnamed_in<'a>(scopes: &'a Scopes<'a>) -> Option<Place>
+    requires { HasScopes scopes.now }
+    ensures { (m : RootedModel) (units : List UnitPath) → AreScopes m units scopes.now
+        → IsEarliest (BreaksNaming m units) result }
+{
+    first_in(scopes, Rule::Names)
+}
+
 // The earliest place at which the tree breaks the rule.
 fn first_in<'a>(scopes: &'a Scopes<'a>, rule: Rule) -> Option<Place>
     requires { HasScopes scopes.now }
@@ -34,16 +44,6 @@ fn first_in<'a>(scopes: &'a Scopes<'a>, rule: Rule) -> Option<Place>
     let values = earliest(in_variables(scopes, rule), in_parameters(scopes, rule));
     let others = earliest(in_observers(scopes, rule), in_units(scopes, rule));
     earliest(values, others)
-}
-
-/// The earliest place at which something in the tree names nothing of the kind that is needed
-/// (L10). Takes no memory.
-pub fn first_misnamed_in<'a>(scopes: &'a Scopes<'a>) -> Option<Place>
-    requires { HasScopes scopes.now }
-    ensures { (m : RootedModel) (units : List UnitPath) → AreScopes m units scopes.now
-        → IsEarliest (BreaksNaming m units) result }
-{
-    first_in(scopes, Rule::Names)
 }
 
 /// The earliest place at which an expression of the tree, or the right path of a `:=:`, has a wrong

@@ -15,7 +15,7 @@ ghost use Rattle.hierarchy.specs.Tie.{IsParameterNode, IsPlainNode, HasAttribute
 ghost use Rattle.gts_core.specs.Sound.{kind_of_domain as kind_of_values};
 ghost use Rattle.source_meaning.specs.Kinds.{IsOfKind};
 ghost use Rattle.bind_scopes.specs.Scopes.{AreScopes, HasScopes};
-ghost use Rattle.bind_rules.specs.Breaking.{BreaksValue, BreaksParameter, BreaksObserver, BreaksOne};
+ghost use Rattle.bind_rules.specs.Breaking.{BreaksValueInForce, BreaksParameter, BreaksObserver, BreaksThing};
 ghost use Rattle.bind_rules.specs.Owning.{IsOwnScope, observed_in};
 ghost use Rattle.bind_rules.specs.Testing.{IsTested};
 
@@ -29,6 +29,18 @@ use class_table::{Classes, Owned, owned_at};
 use hierarchy::{Attribute, MemNode, ParNode, Source, VarNode};
 use typed_expr::ValueKind;
 
+/// The type and the expression of the observer that stands there, where one does. Takes no memory.
+pub fn observed_at(classes: &Classes, source: Source) -> Option<(TypeForm, &RawExpr)>
+    ensures { (d : Declared) → Along IsBodyOf classes.now.bodies.items d.bodies
+        → option_map (λ o. (o.0, o.1.now)) result
+        ≡ observed_in (declared_at d (site_of (source.body, source.member))) }
+{
+    match owned_at(&classes.bodies, (source.body, source.member))? {
+        Owned::Plain(Member::Observer(type_name, _, _, expr)) => Some((type_name.form, expr)),
+        _ => None,
+    }
+}
+
 // The earliest place at which the value breaks the rule, of which this kind is wanted; the scope is
 // that of a value that its thing declares itself.
 fn in_value<'a>(
@@ -41,7 +53,7 @@ fn in_value<'a>(
     requires { HasScopes scopes.now }
     ensures { (m : RootedModel) (units : List UnitPath) (t : Thing) → AreScopes m units scopes.now
         → IsOwnScope m units t own → HasAttribute m units t value → IsOfKind m t kind
-        → IsEarliest (BreaksValue m rule t) result }
+        → IsEarliest (BreaksValueInForce m rule t) result }
 {
     let scope = match value.source.setting {
         None => own,
@@ -97,18 +109,6 @@ fn in_parameter<'a>(scopes: &'a Scopes<'a>, rule: Rule, place: u32, node: &ParNo
     in_value(scopes, rule, Scope::Before(place), kind, node.value)
 }
 
-/// The type and the expression of the observer that stands there, where one does. Takes no memory.
-pub fn observed_at(classes: &Classes, source: Source) -> Option<(TypeForm, &RawExpr)>
-    ensures { (d : Declared) → Along IsBodyOf classes.now.bodies.items d.bodies
-        → option_map (λ o. (o.0, o.1.now)) result
-        ≡ observed_in (declared_at d (site_of (source.body, source.member))) }
-{
-    match owned_at(&classes.bodies, (source.body, source.member))? {
-        Owned::Plain(Member::Observer(type_name, _, _, expr)) => Some((type_name.form, expr)),
-        _ => None,
-    }
-}
-
 // The earliest place at which the expression of an observer breaks the rule.
 fn in_observer<'a>(scopes: &'a Scopes<'a>, rule: Rule, node: &MemNode) -> Option<Place>
     requires { HasScopes scopes.now }
@@ -128,7 +128,7 @@ fn in_observer<'a>(scopes: &'a Scopes<'a>, rule: Rule, node: &MemNode) -> Option
 pub(crate) fn in_variables<'a>(scopes: &'a Scopes<'a>, rule: Rule) -> Option<Place>
     requires { HasScopes scopes.now }
     ensures { (m : RootedModel) (units : List UnitPath) → AreScopes m units scopes.now
-        → IsEarliest (BreaksOne (variables m units) (BreaksValue m rule)) result }
+        → IsEarliest (BreaksThing (variables m units) (BreaksValueInForce m rule)) result }
 {
     let mut found = None;
     let mut last = None;
@@ -144,7 +144,7 @@ pub(crate) fn in_variables<'a>(scopes: &'a Scopes<'a>, rule: Rule) -> Option<Pla
 pub(crate) fn in_parameters<'a>(scopes: &'a Scopes<'a>, rule: Rule) -> Option<Place>
     requires { HasScopes scopes.now }
     ensures { (m : RootedModel) (units : List UnitPath) → AreScopes m units scopes.now
-        → IsEarliest (BreaksOne (parameters m units) (BreaksParameter m rule)) result }
+        → IsEarliest (BreaksThing (parameters m units) (BreaksParameter m rule)) result }
 {
     let mut found = None;
     for (place, node) in scopes.tree.parameters.iter().enumerate() {
@@ -157,7 +157,7 @@ pub(crate) fn in_parameters<'a>(scopes: &'a Scopes<'a>, rule: Rule) -> Option<Pl
 pub(crate) fn in_observers<'a>(scopes: &'a Scopes<'a>, rule: Rule) -> Option<Place>
     requires { HasScopes scopes.now }
     ensures { (m : RootedModel) (units : List UnitPath) → AreScopes m units scopes.now
-        → IsEarliest (BreaksOne (observers m units) (BreaksObserver m rule)) result }
+        → IsEarliest (BreaksThing (observers m units) (BreaksObserver m rule)) result }
 {
     let mut found = None;
     for node in &scopes.tree.observers {

@@ -22,9 +22,9 @@ use Rattle.hierarchy.specs.Tie.{IsTreeOf}
 use Rattle.unit_rules.specs.TypingInside.{KnowsPlaces}
 use Rattle.bind_scopes.specs.Scopes.{AreScopes}
 use Rattle.bind_scopes.specs.declared.scopes.Scopes.{Scopes}
-use Rattle.bind_scopes.specs.Indexed.{same_pair, IsIndexOf}
+use Rattle.bind_scopes.specs.Indexed.{is_same_index, IsIndexOf}
 use Rattle.bind_scopes.proofs.Pairs.{pair_same, pair_one}
-use Rattle.bind_scopes.specs.Members.{HasName, NamesSo, AddsNames, HasFirst}
+use Rattle.bind_scopes.specs.Members.{HasName, NamesSo, AddsMemberNames, HasFirst}
 
 so_none : (x : ℕ) → NamesSo [] x → ⊥
 so_none x n = one_none n.member n.is_one
@@ -43,25 +43,25 @@ so_split gs hs x n = elim (one_split gs hs n.member n.is_one) [
 
 module _ {S : Type 0} (b : ℕ) where
   -- nothing is added
-  pub adds_none : (s : HashSet (ℕ × ℕ) S) → AddsNames b [] s s
+  pub adds_none : (s : HashSet (ℕ × ℕ) S) → AddsMemberNames b [] s s
   adds_none s = record { kept = λ c x h. h; added = λ x n. absurd (so_none x n); only = λ c x h. inl h }
 
   -- one name is added
   pub adds_one : (g : NamedMember) (x : ℕ) → g.name ≡ x → (old new : HashSet (ℕ × ℕ) S)
-      → ((q : ℕ × ℕ) → contains same_pair new q ≡ cond (same_pair (b, x) q) true (contains same_pair old q))
-      → AddsNames b (g ∷ []) old new
+      → ((q : ℕ × ℕ) → contains is_same_index new q ≡ cond (is_same_index (b, x) q) true (contains is_same_index old q))
+      → AddsMemberNames b (g ∷ []) old new
   adds_one g x e old new u = record { kept = kept; added = added; only = only }
     where
       kept : (c y : ℕ) → HasName old c y → HasName new c y
-      kept c y h = by (same_pair (b, x) (c, y)) (u (c, y))
+      kept c y h = by (is_same_index (b, x) (c, y)) (u (c, y))
         where
-          by : (t : Bool) → contains same_pair new (c, y) ≡ cond t true (contains same_pair old (c, y))
+          by : (t : Bool) → contains is_same_index new (c, y) ≡ cond t true (contains is_same_index old (c, y))
               → HasName new c y
           by true f = f
           by false f = f ∙ h
 
       here : HasName new b x
-      here = u (b, x) ∙ ap (λ (t : Bool). cond t true (contains same_pair old (b, x))) (pair_same b x)
+      here = u (b, x) ∙ ap (λ (t : Bool). cond t true (contains is_same_index old (b, x))) (pair_same b x)
 
       added : (y : ℕ) → NamesSo (g ∷ []) y → HasName new b y
       added y n = elim (one_cases g [] n.member n.is_one) [
@@ -70,17 +70,17 @@ module _ {S : Type 0} (b : ℕ) where
       ]
 
       only : (c y : ℕ) → HasName new c y → HasName old c y ⊎ ((c ≡ b) × NamesSo (g ∷ []) y)
-      only c y h = by (same_pair (b, x) (c, y)) refl (u (c, y))
+      only c y h = by (is_same_index (b, x) (c, y)) refl (u (c, y))
         where
-          by : (t : Bool) → same_pair (b, x) (c, y) ≡ t
-              → contains same_pair new (c, y) ≡ cond t true (contains same_pair old (c, y))
+          by : (t : Bool) → is_same_index (b, x) (c, y) ≡ t
+              → contains is_same_index new (c, y) ≡ cond t true (contains is_same_index old (c, y))
               → HasName old c y ⊎ ((c ≡ b) × NamesSo (g ∷ []) y)
           by true f k = let w = pair_one b x c y f in inr (sym w.0, record { member = g; is_one = one_first g []; name = e ∙ w.1 })
           by false f k = inl (sym k ∙ h)
 
   -- more names are added
-  pub adds_more : (gs hs : List NamedMember) (old mid new : HashSet (ℕ × ℕ) S) → AddsNames b gs old mid
-      → AddsNames b hs mid new → AddsNames b (gs ++ hs) old new
+  pub adds_more : (gs hs : List NamedMember) (old mid new : HashSet (ℕ × ℕ) S) → AddsMemberNames b gs old mid
+      → AddsMemberNames b hs mid new → AddsMemberNames b (gs ++ hs) old new
   adds_more gs hs old mid new h k = record {
     kept = λ c x p. k.kept c x (h.kept c x p);
     added = λ x n. elim (so_split gs hs x n) [ inl i ↦ k.kept b x (h.added x i) | inr i ↦ k.added x i ];
@@ -93,14 +93,14 @@ module _ {S : Type 0} (b : ℕ) where
   -- a declaration that declares nothing, or something
   pub adds_declared : (d : Declared) (s : Site) (f : TypeForm) (settings : List Setting) (names : List (NameId × Place))
       (old new : HashSet (ℕ × ℕ) S) → IsDeclaredBy d f true
-      → ((kind : MemberKind) → AddsNames b (all_named s (Some kind) names) old new)
-      → AddsNames b (all_named s (declared_kind d s f settings) names) old new
+      → ((kind : MemberKind) → AddsMemberNames b (all_named s (Some kind) names) old new)
+      → AddsMemberNames b (all_named s (declared_kind d s f settings) names) old new
   adds_declared d s form.Boolean settings names old new e h = h _
   adds_declared d s form.Integer settings names old new e h = cc
   adds_declared d s (form.Named x) settings names old new e h = by (type_named d x.n) e
     where
       by : (t : Option NamedType) → true ≡ is_some t
-          → AddsNames b (all_named s (option_map (λ (u : NamedType). member_kind_of s (form.Named x) u settings) t)
+          → AddsMemberNames b (all_named s (option_map (λ (u : NamedType). member_kind_of s (form.Named x) u settings) t)
           names) old
           new
       by None i = cc
@@ -108,13 +108,13 @@ module _ {S : Type 0} (b : ℕ) where
 
   pub adds_nothing : (d : Declared) (s : Site) (f : TypeForm) (settings : List Setting) (names : List (NameId × Place))
       (old : HashSet (ℕ × ℕ) S) → IsDeclaredBy d f false
-      → AddsNames b (all_named s (declared_kind d s f settings) names) old old
+      → AddsMemberNames b (all_named s (declared_kind d s f settings) names) old old
   adds_nothing d s form.Boolean settings names old e = cc
   adds_nothing d s form.Integer settings names old e = adds_none old
   adds_nothing d s (form.Named x) settings names old e = by (type_named d x.n) e
     where
       by : (t : Option NamedType) → false ≡ is_some t
-          → AddsNames b (all_named s (option_map (λ (u : NamedType). member_kind_of s (form.Named x) u settings) t)
+          → AddsMemberNames b (all_named s (option_map (λ (u : NamedType). member_kind_of s (form.Named x) u settings) t)
           names) old
           old
       by None i = adds_none old
@@ -148,7 +148,7 @@ module _ {S : Type 0} (m : RootedModel) (units : List UnitPath) where
       none b x h = let g = rw e at h in cc
 
   pub first_more : (n : ℕ) (u : UnitPath) → Stands units n u → (old new : HashSet (ℕ × ℕ) S)
-      → AddsNames (body_of m u) (names_in m (body_of m u)) old new
+      → AddsMemberNames (body_of m u) (names_in m (body_of m u)) old new
       → HasFirst m units n old → HasFirst m units (n + 1) new
   first_more n u s old new a h = record { there = there; only = only }
     where

@@ -28,11 +28,11 @@ use Rattle.source_meaning.specs.Means.{is_valued, IsSymbol}
 use Rattle.source_meaning.specs.Tested as s
 use Rattle.source_meaning.specs.Kinds.{IsOfKind, kind_of_member}
 use Rattle.source_meaning.proofs.OneMeaning.{apart, leads_same}
-use Rattle.bind_scopes.specs.Indexed.{same_pair}
+use Rattle.bind_scopes.specs.Indexed.{is_same_index}
 use Rattle.bind_scopes.specs.Members.{HasName, NamesSo}
 use Rattle.bind_scopes.specs.Searching.{variable_in, parameter_in}
 use Rattle.bind_scopes.specs.Sites.{owned_in, is_read}
-use Rattle.bind_scopes.specs.Scopes.{AreScopes, IsNamedIn, variable, parameter, symbol, nothing, HasScopes, symbol_by, is_read_in, first_named, named_in, IsScope, everything, constants, before, is_name, allowed, scoped_in}
+use Rattle.bind_scopes.specs.Scopes.{AreScopes, IsNamedIn, variable, parameter, symbol, nothing, HasScopes, symbol_by, is_read_in, first_named, named_in, IsScope, everything, constants, before, is_one_name, allowed, scoped_in}
 use Rattle.bind_scopes.specs.declared.scopes.Named.{Named}
 use Rattle.bind_scopes.specs.declared.scopes.Named.TheVariants as named
 use Rattle.bind_scopes.specs.declared.scopes.Scope.{Scope}
@@ -114,7 +114,7 @@ module _ {m : RootedModel} {units : List UnitPath} {table : Scopes} (are : AreSc
 
   symbol_looked : (p : Path) (x : ℕ) → p.start ≡ Here → numbers p.names.items ≡ x ∷ [] → (d : UnitNode)
       → d.body.n ≡ body_of m u
-      → (has : Bool) → bag.contains same_pair table.members (d.body.n, x) ≡ has → (r : Option ℕ)
+      → (has : Bool) → bag.contains is_same_index table.members (d.body.n, x) ≡ has → (r : Option ℕ)
       → hash.get nat_eq table.symbols x ≡ r → AnswersSymbol p (if has then None else r)
   symbol_looked p x here single d b true h r g = λ k i.
       let e : i.name ≡ x = (let q = sym i.single ∙ single in cc) in
@@ -142,7 +142,7 @@ module _ {m : RootedModel} {units : List UnitPath} {table : Scopes} (are : AreSc
   symbol_node : (p : Path) → (start : PathStart) (names : List ℕ) → p.start ≡ start → numbers p.names.items ≡ names
       → (d : UnitNode) → d.body.n ≡ body_of m u → AnswersSymbol p (symbol_by table (Some d) start names)
   symbol_node p Here (x ∷ []) e f d b =
-      symbol_looked p x e f d b (bag.contains same_pair table.members (d.body.n, x)) refl
+      symbol_looked p x e f d b (bag.contains is_same_index table.members (d.body.n, x)) refl
       (hash.get nat_eq table.symbols x) refl
   symbol_node p Here [] e f d b = λ k i. let q = sym f ∙ i.single in cc
   symbol_node p Here (x ∷ y ∷ more) e f d b = λ k i. let q = sym f ∙ i.single in cc
@@ -287,7 +287,7 @@ module _ (table : Scopes) (h : HasScopes table) (n : ℕ) (l : n < length table.
 -- Scopes
 
 -- a path that is one name
-name_true : (start : PathStart) (names : List ℕ) → is_name start names ≡ true
+name_true : (start : PathStart) (names : List ℕ) → is_one_name start names ≡ true
     → (x : ℕ) × (start ≡ Here) × (names ≡ x ∷ [])
 name_true Here (x ∷ []) e = (x, refl, refl)
 name_true Here [] e = cc
@@ -295,8 +295,8 @@ name_true Here (x ∷ y ∷ more) e = cc
 name_true Owner names e = cc
 name_true Main names e = cc
 
-true_name : (start : PathStart) (names : List ℕ) (x : ℕ) → start ≡ Here → names ≡ x ∷ [] → is_name start names ≡ true
-true_name start names x e f = ap (λ (z : PathStart). is_name z names) e ∙ ap (λ (z : List ℕ). is_name Here z) f
+true_name : (start : PathStart) (names : List ℕ) (x : ℕ) → start ≡ Here → names ≡ x ∷ [] → is_one_name start names ≡ true
+true_name start names x e f = ap (λ (z : PathStart). is_one_name z names) e ∙ ap (λ (z : List ℕ). is_one_name Here z) f
 
 and_true : (a b : Bool) → a && b ≡ true → (a ≡ true) × (b ≡ true)
 and_true true b e = (refl, e)
@@ -358,7 +358,7 @@ module _ {m : RootedModel} {units : List UnitPath} {tree : Tree} (is : IsTreeOf 
   constant_variable t f (s.symbol k i) = symbol_alone i f.leads f.has.is
   constant_variable t f (s.own x n h) = not_variable x n h t f
 
-  constant_other : (t : Thing) → Finds m is_valued u p t → is_name p.start (numbers p.names.items) ≡ false
+  constant_other : (t : Thing) → Finds m is_valued u p t → is_one_name p.start (numbers p.names.items) ≡ false
       → s.MayName m u s.Constants p → ⊥
   constant_other t f e (s.symbol k i) = symbol_alone i f.leads f.has.is
   constant_other t f e (s.own x n h) = let q = true_name p.start (numbers p.names.items) x n.here n.single in cc
@@ -368,7 +368,7 @@ module _ {m : RootedModel} {units : List UnitPath} {tree : Tree} (is : IsTreeOf 
   has_name x t here single f = subst (λ (z : Thing). PassesTest m is_valued z) (name_only x here single t f.leads) f.has
 
   constant_parameter : (k : ℕ) (t : Thing) → Finds m is_valued u p t → Stands (parameters m units) k t → (single : Bool)
-      → is_name p.start (numbers p.names.items) ≡ single
+      → is_one_name p.start (numbers p.names.items) ≡ single
       → NamesIn m units u s.Constants p (if single then Some (named.Parameter k) else None)
   constant_parameter k t f st true e =
       let w = name_true p.start (numbers p.names.items) e in
@@ -376,10 +376,10 @@ module _ {m : RootedModel} {units : List UnitPath} {tree : Tree} (is : IsTreeOf 
   constant_parameter k t f st false e = constant_other t f e
 
   constants_name : (r : Option Named) → IsNamedIn m units u p r
-      → NamesIn m units u s.Constants p (allowed Constants (is_name p.start (numbers p.names.items)) r)
+      → NamesIn m units u s.Constants p (allowed Constants (is_one_name p.start (numbers p.names.items)) r)
   constants_name r (variable t f st) = constant_variable t f
   constants_name r (parameter {k = k} t f st) =
-      constant_parameter k t f st (is_name p.start (numbers p.names.items)) refl
+      constant_parameter k t f st (is_one_name p.start (numbers p.names.items)) refl
   constants_name r (symbol {k = k} i) = (s.symbol k i, symbol i)
   constants_name r (nothing n) = λ h. n (may_more s.Constants h)
 
@@ -410,7 +410,7 @@ module _ {m : RootedModel} {units : List UnitPath} {tree : Tree} (is : IsTreeOf 
             one_earlier m is_parameter is.table.kept u x y e o
 
     before_other : (k : ℕ) (t : Thing) → Finds m is_valued u p t → Stands (parameters m units) k t
-        → (is_name p.start (numbers p.names.items) && nat_lt k j) ≡ false → s.MayName m u (s.Before y) p → ⊥
+        → (is_one_name p.start (numbers p.names.items) && nat_lt k j) ≡ false → s.MayName m u (s.Before y) p → ⊥
     before_other k t f st e (s.symbol n i) = symbol_alone i f.leads f.has.is
     before_other k t f st e (s.earlier x n h o) =
         let q = true_name p.start (numbers p.names.items) x n.here n.single in
@@ -418,10 +418,10 @@ module _ {m : RootedModel} {units : List UnitPath} {tree : Tree} (is : IsTreeOf 
         not_before k t f st (grind (arith, nat_tests)) x n o
 
     before_parameter : (k : ℕ) (t : Thing) → Finds m is_valued u p t → Stands (parameters m units) k t → (b : Bool)
-        → (is_name p.start (numbers p.names.items) && nat_lt k j) ≡ b
+        → (is_one_name p.start (numbers p.names.items) && nat_lt k j) ≡ b
         → NamesIn m units u (s.Before y) p (if b then Some (named.Parameter k) else None)
     before_parameter k t f st true e =
-        let c = and_true (is_name p.start (numbers p.names.items)) (nat_lt k j) e in
+        let c = and_true (is_one_name p.start (numbers p.names.items)) (nat_lt k j) e in
         let w = name_true p.start (numbers p.names.items) c.0 in
         let q = name_only w.0 w.1 w.2 t f.leads in
         let l : nat_lt k j ≡ true = c.1 in
@@ -431,16 +431,16 @@ module _ {m : RootedModel} {units : List UnitPath} {tree : Tree} (is : IsTreeOf 
     before_parameter k t f st false e = before_other k t f st e
 
     before_names : (r : Option Named) → IsNamedIn m units u p r
-        → NamesIn m units u (s.Before y) p (allowed (Before j) (is_name p.start (numbers p.names.items)) r)
+        → NamesIn m units u (s.Before y) p (allowed (Before j) (is_one_name p.start (numbers p.names.items)) r)
     before_names r (variable t f st) = before_variable t f
     before_names r (parameter {k = k} t f st) =
-        before_parameter k t f st (is_name p.start (numbers p.names.items) && nat_lt k j) refl
+        before_parameter k t f st (is_one_name p.start (numbers p.names.items) && nat_lt k j) refl
     before_names r (symbol {k = k} i) = (s.symbol k i, symbol i)
     before_names r (nothing n) = λ h. n (may_more (s.Before y) h)
 
   pub allowed_names : (scope : Scope) (meant : s.Scope) → IsScope m units u scope meant → (r : Option Named)
       → IsNamedIn m units u p r
-      → NamesIn m units u meant p (allowed scope (is_name p.start (numbers p.names.items)) r)
+      → NamesIn m units u meant p (allowed scope (is_one_name p.start (numbers p.names.items)) r)
   allowed_names scope meant everything r h = everything_names r h
   allowed_names scope meant constants r h = constants_name r h
   allowed_names scope meant (before {k = j} y at) r h = before_names j y at r h

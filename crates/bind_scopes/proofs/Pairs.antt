@@ -2,13 +2,13 @@
 use Rattle.std.proofs.Common.{◌≡◌, ℕ, ◌⊎◌, inl, inr, true, false, ◌==◌, ◌&&◌, arith}
 use Rattle.std.proofs.lemmas.Bool.Decides.{nat_tests}
 use Rattle.hierarchy.proofs.Finding.{same_or_not}
-use Rattle.bind_scopes.specs.Indexed.{same_pair}
+use Rattle.bind_scopes.specs.Indexed.{is_same_index}
 
 -- a pair is itself and no other
-pub pair_same : (b x : ℕ) → same_pair (b, x) (b, x) ≡ true
+pub pair_same : (b x : ℕ) → is_same_index (b, x) (b, x) ≡ true
 pair_same b x = grind (arith, nat_tests)
 
-pub pair_one : (b x c y : ℕ) → same_pair (b, x) (c, y) ≡ true → (b ≡ c) × (x ≡ y)
+pub pair_one : (b x c y : ℕ) → is_same_index (b, x) (c, y) ≡ true → (b ≡ c) × (x ≡ y)
 pair_one b x c y e = by (same_or_not b c) (same_or_not x y) e
   where
     by : (((b == c) ≡ true) × (b ≡ c)) ⊎ (((b == c) ≡ false) × (b ≡ c → ⊥))

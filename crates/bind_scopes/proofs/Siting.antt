@@ -28,8 +28,8 @@ use Rattle.hierarchy.specs.declared.tree.Source.{Source}
 use Rattle.source_meaning.specs.Means.{is_valued}
 use Rattle.instantiate.proofs.Named.{given_at, declares_owned, single_one}
 use Rattle.instantiate.proofs.Parametered.{parameter_owned, IsParameterSo, typed, kept}
-use Rattle.instantiate.specs.Values.{parameter_in, parameter_type}
-use Rattle.bind_scopes.specs.Sites.{owned_in, reads_value, is_read, value_in, value_of, written_of}
+use Rattle.instantiate.specs.Values.{parameter_type_in, parameter_type}
+use Rattle.bind_scopes.specs.Sites.{owned_in, reads_value, is_read, value_of_parameter, looked_up_value, written_of}
 
 -- the member at a place, in the table and as it is declared
 pub owned_same : (d : Declared) (c : Classes) → Along IsBodyOf c.bodies.items d.bodies
@@ -53,7 +53,7 @@ owned_same d c shown s site o is = by (slice_get c.bodies.items s.body.n) refl �
 
 -- a parameter is read where it has a value
 read_form : (f : MemberForm) (k : MemberKind) → is_parameter k ≡ true → (g : NamedMember) → g.kind ≡ k
-    → IsParameterSo g (parameter_in f) → reads_value f ≡ is_valued k
+    → IsParameterSo g (parameter_type_in f) → reads_value f ≡ is_valued k
 read_form (member.Parameter t x at e) k p g i (typed v j) = ap is_valued (sym j ∙ i)
 read_form (member.Kept x at span) k p g i (kept j) = ap is_valued (sym j ∙ i)
 read_form (member.Extends x at) k p g i h = elim h [ ]
@@ -93,7 +93,7 @@ variable_settings m u x g f settings e k =
 
 -- the value of a parameter is that of the member that gives it
 value_form : (d : Declared) (s : Site) (f : MemberForm) (g : NamedMember) (t : TypeForm) (e : RawExpr)
-    → IsOneOf (names_of_form d s f) g → g.kind ≡ Parameter t e → IsParameterSo g (parameter_in f) → value_in f ≡ Some e
+    → IsOneOf (names_of_form d s f) g → g.kind ≡ Parameter t e → IsParameterSo g (parameter_type_in f) → value_of_parameter f ≡ Some e
 value_form d s (member.Parameter t x at v) g f e h k (typed w j) =
     let q : Parameter t.form v ≡ Parameter f e = (single_one s x at (Parameter t.form v) g h).1 ∙ k in let r : v ≡ e = cc in ap (λ (z : RawExpr). Some z) r
 value_form d s (member.Kept x at span) g f e h k (kept j) = let q : Kept ≡ Parameter f e = sym j ∙ k in cc
@@ -110,13 +110,13 @@ value_form d s (member.Sync x at parts) g t e o k h = elim h [ ]
 value_form d s (member.Assert q) g t e o k h = elim h [ ]
 
 value_owned : (d : Declared) (s : Site) (o : Option Owned) (g : NamedMember) (t : TypeForm) (e : RawExpr)
-    → IsOneOf (names_of d s o) g → g.kind ≡ Parameter t e → IsParameterSo g (parameter_type o) → value_of o ≡ Some e
+    → IsOneOf (names_of d s o) g → g.kind ≡ Parameter t e → IsParameterSo g (parameter_type o) → looked_up_value o ≡ Some e
 value_owned d s None g t e i k h = elim h [ ]
 value_owned d s (Some (Plain m)) g t e i k h = value_form d s (out-Member m) g t e i k h
 value_owned d s (Some (Nested x at b)) g t e i k h = elim h [ ]
 
 parameter_value : (m : RootedModel) (u : UnitPath) (x : ℕ) (g : NamedMember) (t : TypeForm) (e : RawExpr)
-    → name_at m u x ≡ Some g → g.kind ≡ Parameter t e → value_of (owned_at m.declared g.site) ≡ Some e
+    → name_at m u x ≡ Some g → g.kind ≡ Parameter t e → looked_up_value (owned_at m.declared g.site) ≡ Some e
 parameter_value m u x g t e n k =
     let at = given_at m u x g n in
     value_owned m.declared g.site (owned_at m.declared g.site) g t e at.given k

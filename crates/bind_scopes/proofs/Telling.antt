@@ -6,7 +6,7 @@ use Rattle.ar_base.proofs.Standing.{stands_none, stands_within, stands_left, sta
 use Rattle.class_table.proofs.Taken.{take_next}
 use Rattle.hierarchy.specs.Finding.{FindsNode}
 use Rattle.hierarchy.specs.declared.tree.MemNode.{MemNode}
-use Rattle.bind_scopes.specs.Indexed.{same_pair, TellsNodes}
+use Rattle.bind_scopes.specs.Indexed.{is_same_index, TellsNodes}
 use Rattle.bind_scopes.proofs.Pairs.{pair_same, pair_one}
 
 module _ {A S : Type 0} (node : A → MemNode) where
@@ -22,15 +22,15 @@ module _ {A S : Type 0} (node : A → MemNode) where
     far : n ≡ length before + 0
     far = let w = stands_within nodes n d at in let l = length-take n nodes in omega (arith, w, l)
 
-    pub tells_more : ((q : ℕ × ℕ) → get same_pair new q
-        ≡ cond (same_pair ((node d).unit.n, (node d).name.n) q) (Some n) (get same_pair old q))
+    pub tells_more : ((q : ℕ × ℕ) → get is_same_index new q
+        ≡ cond (is_same_index ((node d).unit.n, (node d).name.n) q) (Some n) (get is_same_index old q))
         → TellsNodes node before old
         → TellsNodes node (take (n + 1) nodes) new
     tells_more up h u x =
         let key : ℕ × ℕ = ((node d).unit.n, (node d).name.n) in
-        subst (λ (xs : List A). FindsNode node xs u x (get same_pair new (u, x))) (sym (take_next nodes n d at))
+        subst (λ (xs : List A). FindsNode node xs u x (get is_same_index new (u, x))) (sym (take_next nodes n d at))
         (subst (λ (r : Option ℕ). FindsNode node (before ++ d ∷ []) u x r) (sym (up (u, x)))
-        (by (same_pair key (u, x)) refl))
+        (by (is_same_index key (u, x)) refl))
       where
         kept : ((node d).unit.n ≡ u → (node d).name.n ≡ x → ⊥) → (r : Option ℕ) → FindsNode node before u x r
             → FindsNode node (before ++ d ∷ []) u x r
@@ -44,14 +44,14 @@ module _ {A S : Type 0} (node : A → MemNode) where
             here (suc k) e s un nn = stands_none k e s
         kept other (Some k) f = (f.0, stands_left before (d ∷ []) k f.0 f.1, f.2, f.3)
 
-        by : (b : Bool) → same_pair ((node d).unit.n, (node d).name.n) (u, x) ≡ b
-            → FindsNode node (before ++ d ∷ []) u x (cond b (Some n) (get same_pair old (u, x)))
+        by : (b : Bool) → is_same_index ((node d).unit.n, (node d).name.n) (u, x) ≡ b
+            → FindsNode node (before ++ d ∷ []) u x (cond b (Some n) (get is_same_index old (u, x)))
         by true e = let w = pair_one (node d).unit.n (node d).name.n u x e in (d, stands_right before (d ∷ []) 0 n d far refl, w.0, w.1)
-        by false e = kept (λ p q. apart p q) (get same_pair old (u, x)) (h u x)
+        by false e = kept (λ p q. apart p q) (get is_same_index old (u, x)) (h u x)
           where
             apart : (node d).unit.n ≡ u → (node d).name.n ≡ x → ⊥
-            apart p q = let s = pair_same (node d).unit.n (node d).name.n in let r = subst (λ (z : ℕ). same_pair ((node d).unit.n, (node d).name.n) ((node d).unit.n, z) ≡ true) q s in
-                let t = subst (λ (z : ℕ). same_pair ((node d).unit.n, (node d).name.n) (z, x) ≡ true) p r in cc
+            apart p q = let s = pair_same (node d).unit.n (node d).name.n in let r = subst (λ (z : ℕ). is_same_index ((node d).unit.n, (node d).name.n) ((node d).unit.n, z) ≡ true) q s in
+                let t = subst (λ (z : ℕ). is_same_index ((node d).unit.n, (node d).name.n) (z, x) ≡ true) p r in cc
 
   -- all nodes
   pub tells_all : (nodes : List A) (n : ℕ) (places : HashMap (ℕ × ℕ) ℕ S) → length nodes ≤ n

@@ -12,7 +12,7 @@ use Rattle.hierarchy.specs.Units.{UnitPath, Thing, kind_at, name_at, start_of}
 use Rattle.hierarchy.specs.Walks.{Reaches, NamesLead, IsUnitAt, on, arrives}
 use Rattle.hierarchy.specs.WalksInside.{LeadsFrom}
 use Rattle.hierarchy.specs.Listing.{things_in, is_inner}
-use Rattle.hierarchy.specs.Tie.{IsUnitNode, IsTreeOf, IsNode, AnswersThing, entry_in, is_alias}
+use Rattle.hierarchy.specs.Tie.{IsUnitNode, IsTreeOf, IsThingNode, AnswersThing, entry_in, is_alias}
 use Rattle.hierarchy.specs.Finding.{StartsAt, FindsNode, HasOwner, unit_number}
 use Rattle.hierarchy.specs.declared.tree.MemNode.{MemNode}
 use Rattle.hierarchy.specs.declared.tree.UnitNode.{UnitNode}
@@ -176,7 +176,7 @@ module _ {A : Type 0} (node : A → MemNode) (u x : ℕ) where
 -- what is found is what the path names
 module _ {m : RootedModel} {units : List UnitPath} {tree : Tree} (t : IsTreeOf m units tree) {A : Type 0}
     (test : MemberKind → Bool) (node : A → MemNode) (IsIt : Thing → A → Type 0)
-    (is_node : (s : Thing) (d : A) → IsIt s d → (g : NamedMember) × IsNode m units s g (node d)) (nodes : List A)
+    (is_node : (s : Thing) (d : A) → IsIt s d → (g : NamedMember) × IsThingNode m units s g (node d)) (nodes : List A)
     (along : Along IsIt (flat_map (things_in test m) units) nodes) where
   by_owner : (u : UnitPath) (start : PathStart) (names : List ℕ) (o : Option (ℕ × ℕ)) → LeadsIn m units u start names o
       → AnswersThing m (flat_map (things_in test m) units) test u start names (option_and_then (node_in node nodes) o)

@@ -6,11 +6,11 @@ use Rattle.class_table.specs.Members.{NamedMember}
 use Rattle.hierarchy.specs.Models.{RootedModel}
 use Rattle.hierarchy.specs.Units.{UnitPath, body_of, names_at}
 use Rattle.hierarchy.specs.UnitsInside.{names_in}
-use Rattle.bind_scopes.specs.Indexed.{same_pair}
+use Rattle.bind_scopes.specs.Indexed.{is_same_index}
 
 -- the name is in the set, for this body
 abbrev pub HasName : {S : Type 0} → HashSet (ℕ × ℕ) S → ℕ → ℕ → Type 0
-HasName names b x = contains same_pair names (b, x) ≡ true
+HasName names b x = contains is_same_index names (b, x) ≡ true
 
 -- a member of this name
 pub record NamesSo (members : List NamedMember) (x : ℕ) : Type 0 where
@@ -19,7 +19,7 @@ pub record NamesSo (members : List NamedMember) (x : ℕ) : Type 0 where
   pub name : member.name ≡ x
 
 -- the names of these members were added, for this body
-pub record AddsNames {S : Type 0} (b : ℕ) (members : List NamedMember) (old new : HashSet (ℕ × ℕ) S) : Type 0 where
+pub record AddsMemberNames {S : Type 0} (b : ℕ) (members : List NamedMember) (old new : HashSet (ℕ × ℕ) S) : Type 0 where
   pub kept : (c x : ℕ) → HasName old c x → HasName new c x
   pub added : (x : ℕ) → NamesSo members x → HasName new b x
   pub only : (c x : ℕ) → HasName new c x → HasName old c x ⊎ ((c ≡ b) × NamesSo members x)

@@ -19,7 +19,7 @@ use Rattle.hierarchy.specs.declared.tree.Tree.{Tree}
 use Rattle.source_meaning.specs.Means.{is_valued, IsSymbol}
 use Rattle.source_meaning.specs.Tested as s
 use Rattle.unit_rules.specs.TypingInside.{KnowsPlaces}
-use Rattle.bind_scopes.specs.Indexed.{same_pair, IsIndexOf}
+use Rattle.bind_scopes.specs.Indexed.{is_same_index, IsIndexOf}
 use Rattle.bind_scopes.specs.Members.{HasName, NamesSo}
 use Rattle.bind_scopes.specs.Searching.{variable_in, parameter_in}
 use Rattle.bind_scopes.specs.Sites.{owned_in, is_read}
@@ -63,7 +63,7 @@ pub data IsNamedIn (m : RootedModel) (units : List UnitPath) (u : UnitPath) (p :
 -- the number of the symbol, where the unit has no member of the name
 abbrev pub symbol_in : Scopes → Option UnitNode → ℕ → Option ℕ
 symbol_in s None x = None
-symbol_in s (Some d) x = if bag.contains same_pair s.members (d.body.n, x) then None else hash.get nat_eq s.symbols x
+symbol_in s (Some d) x = if bag.contains is_same_index s.members (d.body.n, x) then None else hash.get nat_eq s.symbols x
 
 -- the name of a path that is one name, read in the unit itself
 abbrev pub name_in : PathStart → List ℕ → Option ℕ
@@ -102,8 +102,8 @@ pub data IsScope (m : RootedModel) (units : List UnitPath) (u : UnitPath) : Scop
   before : {k : ℕ} (y : ℕ) → Stands (parameters m units) k (thing u y) → IsScope m units u (Before k) (s.Before y)
 
 -- the path is one name
-abbrev pub is_name : PathStart → List ℕ → Bool
-is_name start names = is_some (name_in start names)
+abbrev pub is_one_name : PathStart → List ℕ → Bool
+is_one_name start names = is_some (name_in start names)
 
 -- what may be named of what a path names
 abbrev pub allowed : Scope → Bool → Option Named → Option Named
@@ -116,4 +116,4 @@ allowed (Before j) single (Some (Parameter k)) = if single && nat_lt k j then So
 
 -- what a path in an expression of the scope names in unit n
 abbrev pub scoped_in : Scopes → ℕ → Scope → Path → Option Named
-scoped_in s n scope p = allowed scope (is_name p.start (numbers p.names.items)) (named_in s n p)
+scoped_in s n scope p = allowed scope (is_one_name p.start (numbers p.names.items)) (named_in s n p)

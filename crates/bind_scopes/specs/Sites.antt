@@ -32,17 +32,17 @@ abbrev pub declares_flows : Option Owned → Bool
 declares_flows o = is_flow (settings_of o)
 
 -- the value of a parameter
-abbrev pub value_in : MemberForm → Option RawExpr
-value_in (member.Parameter t x at e) = Some e
-value_in _ = None
+abbrev pub value_of_parameter : MemberForm → Option RawExpr
+value_of_parameter (member.Parameter t x at e) = Some e
+value_of_parameter _ = None
 
 -- the same of a member that was looked up
-abbrev pub value_of : Option Owned → Option RawExpr
-value_of None = None
-value_of (Some (Plain m)) = value_in (out-Member m)
-value_of (Some (Nested x at b)) = None
+abbrev pub looked_up_value : Option Owned → Option RawExpr
+looked_up_value None = None
+looked_up_value (Some (Plain m)) = value_of_parameter (out-Member m)
+looked_up_value (Some (Nested x at b)) = None
 
 -- the expression of setting k of a member, or that of the member itself
 abbrev pub written_of : Option ℕ → Option Owned → Option RawExpr
-written_of None o = value_of o
+written_of None o = looked_up_value o
 written_of (Some k) o = option_map (λ (s : Setting). s.value) (slice_get (settings_of o) k)

@@ -11,7 +11,7 @@ ghost use Rattle.hierarchy.specs.Walks.{is_variable, is_parameter, is_event};
 ghost use Rattle.hierarchy.specs.Listing.{variables, parameters, events};
 ghost use Rattle.hierarchy.specs.Tie.{IsTreeOf, AnswersThing};
 ghost use Rattle.hierarchy.specs.Finding.{IsSomeTree};
-ghost use Rattle.bind_scopes.specs.Indexed.{same_pair, TellsNodes, IsIndexOf};
+ghost use Rattle.bind_scopes.specs.Indexed.{is_same_index, TellsNodes, IsIndexOf};
 
 use ar_base::{EventId, Memory, NameId, UnitId, VarId};
 use ar_syntax::PathStart;
@@ -33,7 +33,7 @@ pub struct Index {
 
 // Adds the place of a node.
 fn add(places: &mut Places, node: MemNode, place: u32) -> Result<(), Memory>
-    ensures { OnOk result (Updates same_pair places.old places.new
+    ensures { OnOk result (Updates is_same_index places.old places.new
         (node.unit.n, node.name.n) (Some place)) }
 {
     places.insert((node.unit.n, node.name.n), place)?;
@@ -78,7 +78,7 @@ fn places_of_events(alloc: Global, nodes: &[MemNode]) -> Result<Places, Memory>
 
 // The place under a unit and a name.
 fn place_of(places: &Places, unit: UnitId, name: NameId) -> Option<u32>
-    ensures { result ≡ get same_pair places.now (unit.n, name.n) }
+    ensures { result ≡ get is_same_index places.now (unit.n, name.n) }
 {
     places.get(&(unit.n, name.n)).copied()
 }

@@ -10,7 +10,7 @@ ghost use Rattle.hierarchy.specs.Models.{RootedModel};
 ghost use Rattle.hierarchy.specs.Tie.{IsTreeOf};
 ghost use Rattle.hierarchy.specs.Units.{UnitPath};
 ghost use Rattle.unit_rules.specs.TypingInside.{KnowsPlaces};
-ghost use Rattle.bind_scopes.specs.Members.{AddsNames, HasFirst};
+ghost use Rattle.bind_scopes.specs.Members.{AddsMemberNames, HasFirst};
 
 use crate::sites::members_of;
 use ar_base::{BodyId, Memory, NameId, Place};
@@ -23,6 +23,20 @@ use unit_rules::TypePlaces;
 
 /// Names by the numbers of bodies.
 pub(crate) type Names = HashSet<(u32, u32)>;
+
+/// The names of the members of all units, inherited ones included, by the units' bodies.
+pub(crate) fn names_of_members(alloc: Global, tree: &Tree) -> Result<Names, Memory>
+    ensures { (m : RootedModel) (units : List UnitPath) → IsTreeOf m units tree.now
+        → IfOk result (HasFirst m units (length units)) }
+{
+    let places = TypePlaces::new(alloc, &tree.classes.types)?;
+    let mut names = HashSet::new(alloc);
+    for node in &tree.units {
+        let sites = members_of(&tree.classes, node.body);
+        add_sites(&mut names, node.body, &tree.classes, &places, sites)?;
+    }
+    Ok(names)
+}
 
 // Whether a declaration by this type declares anything.
 fn declares(form: TypeForm, types: &[(NameId, TypeBody)], places: &TypePlaces) -> bool
@@ -39,7 +53,7 @@ fn declares(form: TypeForm, types: &[(NameId, TypeBody)], places: &TypePlaces) -
 // Adds a name for the body.
 fn add(names: &mut Names, body: BodyId, name: NameId) -> Result<(), Memory>
     ensures { OnOk result ((g : NamedMember) → g.name ≡ name.n
-        → AddsNames body.n (g ∷ []) names.old names.new) }
+        → AddsMemberNames body.n (g ∷ []) names.old names.new) }
 {
     names.insert((body.n, name.n))?;
     Ok(())
@@ -48,7 +62,7 @@ fn add(names: &mut Names, body: BodyId, name: NameId) -> Result<(), Memory>
 // Adds the names of a declaration for the body.
 fn add_all(names: &mut Names, body: BodyId, list: &[(NameId, Place)]) -> Result<(), Memory>
     ensures { OnOk result ((s : Site) (kind : MemberKind)
-        → AddsNames body.n (all_named s (Some kind) list.now) names.old names.new) }
+        → AddsMemberNames body.n (all_named s (Some kind) list.now) names.old names.new) }
 {
     for (name, _) in list {
         add(names, body, *name)?;
@@ -66,7 +80,7 @@ fn add_member(
 ) -> Result<(), Memory>
     ensures { (d : Declared) (s : Site) → Along (IsNamedType d.symbols) types.now d.types
         → KnowsPlaces types.now places.now
-        → OnOk result (AddsNames body.n (names_of d s (Some owned.now)) names.old names.new) }
+        → OnOk result (AddsMemberNames body.n (names_of d s (Some owned.now)) names.old names.new) }
 {
     let member = match owned {
         Owned::Nested(name, _, _) => return add(names, body, *name),
@@ -104,7 +118,7 @@ fn add_sites(
     sites: &[(BodyId, u32)],
 ) -> Result<(), Memory>
     ensures { (d : Declared) → HoldsDeclared d classes.now → KnowsPlaces classes.now.types.items places.now
-        → OnOk result (AddsNames body.n (named_at d (map site_of sites.now)) names.old names.new) }
+        → OnOk result (AddsMemberNames body.n (named_at d (map site_of sites.now)) names.old names.new) }
 {
     for site in sites {
         if let Some(owned) = owned_at(&classes.bodies, *site) {
@@ -112,18 +126,4 @@ fn add_sites(
         }
     }
     Ok(())
-}
-
-/// The names of the members of all units, inherited ones included, by the units' bodies.
-pub(crate) fn names_of_members(alloc: Global, tree: &Tree) -> Result<Names, Memory>
-    ensures { (m : RootedModel) (units : List UnitPath) → IsTreeOf m units tree.now
-        → IfOk result (HasFirst m units (length units)) }
-{
-    let places = TypePlaces::new(alloc, &tree.classes.types)?;
-    let mut names = HashSet::new(alloc);
-    for node in &tree.units {
-        let sites = members_of(&tree.classes, node.body);
-        add_sites(&mut names, node.body, &tree.classes, &places, sites)?;
-    }
-    Ok(names)
 }

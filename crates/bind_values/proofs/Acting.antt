@@ -34,7 +34,7 @@ use Rattle.source_meaning.specs.Kinds.{HasKindAt}
 use Rattle.source_meaning.specs.Kinds as k
 use Rattle.source_meaning.specs.Rules.{IsNot, Is}
 use Rattle.source_meaning.specs.Tested as s
-use Rattle.source_meaning.specs.BoundActs.{IsExpressionOf, IsTargetOf, AreLeaves, IsBoundInstruction}
+use Rattle.source_meaning.specs.BoundActs.{IsExpressionOf, IsAssignedPath, AreLeaves, IsBoundInstruction}
 use Rattle.source_meaning.specs.BoundActs as of
 use Rattle.source_meaning.proofs.BoundInstructions.{bound_instruction}
 use Rattle.written_forms.specs.Operands.{level_of, AnyKind}
@@ -93,7 +93,7 @@ module _ {m : RootedModel} {units : List UnitPath} {u : UnitPath} {leaves : Unit
       let w = may_named (names_of h States) p (s.variable v.thing v.finds) in
       (w.0, kind_names (names_of h States) p w.0 w.1)
 
-  misnames : {i : InstrForm} {p : Path} → IsTargetOf p i → (s.NamesVariable m u p → ⊥)
+  misnames : {i : InstrForm} {p : Path} → IsAssignedPath p i → (s.NamesVariable m u p → ⊥)
       → MisnamesItself (s.MayName m u s.Everything) (s.NamesVariable m u) i p.at
   misnames of.assigned n = b.target n
   misnames of.left n = b.left n
@@ -106,7 +106,7 @@ module _ {m : RootedModel} {units : List UnitPath} {u : UnitPath} {leaves : Unit
   misnames_in of.value n = b.value n
 
   module _ (to_state : Bool) where
-    named_target : {i : InstrForm} {p : Path} → KeepsRules m u to_state i → IsTargetOf p i → s.NamesVariable m u p
+    named_target : {i : InstrForm} {p : Path} → KeepsRules m u to_state i → IsAssignedPath p i → s.NamesVariable m u p
     named_target {p = p} r x = target_named p (λ n. r.naming p.at (misnames x n))
 
     right_in : {i : InstrForm} {e : RawExpr} {at : Place} → KeepsRules m u to_state i → IsExpressionOf e i
@@ -207,10 +207,10 @@ module _ {m : RootedModel} {units : List UnitPath} {u : UnitPath} {leaves : Unit
         let d : Becomes (StandsFor (leaf_in leaves)) (raw.Path q) (out-Expr VarId z.value) =
         subst (λ (w : Level VarId). Becomes (StandsFor (leaf_in leaves)) (raw.Path q) w) (sym z.names)
         (t.path (ap leaf_level l)) in
-        let w : typed.kind_in tree y ≡ kind_of_domain g.node.domain = ap kind_of_node o.stands ∙ same in
+        let w : typed.kind_of_number tree y ≡ kind_of_domain g.node.domain = ap kind_of_node o.stands ∙ same in
         as_act a (act.Set x z.value at) z.is (typed.set g.node g.stands is_sort (record {
-          typed = subst (λ (w : Level VarId). HasKind (typed.kind_in tree) w (kind_of_domain g.node.domain))
-              (sym z.names) (subst (λ (k : ValueKind). HasKind (typed.kind_in tree) (Variable y) k) w kind.variable);
+          typed = subst (λ (w : Level VarId). HasKind (typed.kind_of_number tree) w (kind_of_domain g.node.domain))
+              (sym z.names) (subst (λ (k : ValueKind). HasKind (typed.kind_of_number tree) (Variable y) k) w kind.variable);
           variables = λ v w. variables_in h d v w;
           symbols = λ v w. symbols_in h d v w;
         }))

@@ -17,31 +17,31 @@ use Rattle.hierarchy.specs.declared.tree.Tree.{Tree}
 use Rattle.hierarchy.specs.declared.tree.VarNode.{VarNode}
 use Rattle.source_meaning.specs.Tested.{IsReadable, of_variable, of_parameter}
 use Rattle.source_meaning.specs.Rules.{BreaksValue}
-use Rattle.bind_values.specs.Values.{IsValue, IsParameterValue, IsDomainAt, HoldsIn, AreValues, BreaksOne}
+use Rattle.bind_values.specs.Values.{IsValue, IsParameterValue, IsDomainAt, HoldsIn, AreValues, BreaksOneValue}
 use Rattle.bind_values.specs.declared.whole.Values.{Values}
 use Rattle.bind_values.proofs.OutsideDomains.{holds_by, variable_domain, parameter_domain, domain_valued, along_both}
 use Rattle.bind_values.proofs.ValuesRight.{parameter_attribute}
 
 module _ (m : RootedModel) (units : List UnitPath) where
   -- the earliest place among parameters and variables is that of the rule
-  pub whole_earliest : (f g r : Option Place) → IsEarliest (BreaksOne m units (parameters m units)) f
-      → IsEarliest (BreaksOne m units (variables m units)) g → IsEarlierOf f g r
+  pub whole_earliest : (f g r : Option Place) → IsEarliest (BreaksOneValue m units (parameters m units)) f
+      → IsEarliest (BreaksOneValue m units (variables m units)) g → IsEarlierOf f g r
       → IsEarliest (BreaksValue m units) r
   whole_earliest f g r p v e = earliest_same r to from (earliest_both f g r p v e)
     where
-      to : (at : Place) → BreaksOne m units (parameters m units) at ⊎ BreaksOne m units (variables m units)
+      to : (at : Place) → BreaksOneValue m units (parameters m units) at ⊎ BreaksOneValue m units (variables m units)
           at → BreaksValue m units at
       to at (inl b) = b.breaks.breaks
       to at (inr b) = b.breaks.breaks
 
       by : (at : Place) (b : BreaksValue m units at) → IsReadable m units b.thing
-          → BreaksOne m units (parameters m units) at ⊎ BreaksOne m units (variables m units) at
+          → BreaksOneValue m units (parameters m units) at ⊎ BreaksOneValue m units (variables m units) at
       by at b (of_variable o) = inr (record
           { thing = b.thing; is_one = o; breaks = record { breaks = b; thing = refl } })
       by at b (of_parameter o h) = inl (record
           { thing = b.thing; is_one = o; breaks = record { breaks = b; thing = refl } })
 
-      from : (at : Place) → BreaksValue m units at → BreaksOne m units (parameters m units) at ⊎ BreaksOne m units
+      from : (at : Place) → BreaksValue m units at → BreaksOneValue m units (parameters m units) at ⊎ BreaksOneValue m units
           (variables m units) at
       from at b = by at b b.has_value
 

@@ -15,7 +15,7 @@ use Rattle.typed_expr.specs.Kinds as kind
 use Rattle.typed_expr.specs.declared.expr.Expr.TheOpen.{Variable, Constant}
 use Rattle.typed_expr.specs.declared.expr.ValueKind.{ValueKind}
 use Rattle.gts_core.specs.Sound.{kind_of_domain}
-use Rattle.gts_core.specs.Readings.{value_at}
+use Rattle.gts_core.specs.Readings.{valuation_at}
 use Rattle.gts_core.proofs.Reading.{read_value}
 use Rattle.class_table.specs.Members.{MemberKind}
 use Rattle.class_table.specs.Tables.{symbols, range}
@@ -109,13 +109,13 @@ module _ {m : RootedModel} {units : List UnitPath} {u : UnitPath} {leaves : Unit
 
   -- the value of a parameter
   parameter_value : (n : ℕ) (t : Thing) → Stands (parameters m units) n t → PassesTest m is_valued t
-      → IsValue m t (value_at vs n)
+      → IsValue m t (valuation_at vs n)
   parameter_value n t st has =
       let b = along_on (parameters m units) vs h.along n t st in
       subst (λ (z : Value). IsValue m t z) (sym (read_value vs n b.0 b.1)) (b.2.value has)
 
   parameter_symbol : (n : ℕ) (t : Thing) → Stands (parameters m units) n t → PassesTest m is_valued t
-      → IsSymbolIn tree (value_at vs n)
+      → IsSymbolIn tree (valuation_at vs n)
   parameter_symbol n t st has =
       let a = along_on (parameters m units) tree.parameters.items h.are.is_tree.parameters_are n t st in
       let b = along_on tree.parameters.items vs h.held n a.0 a.1 in
@@ -134,25 +134,25 @@ module _ {m : RootedModel} {units : List UnitPath} {u : UnitPath} {leaves : Unit
     is_named = names_right h.are leaves.unit.n u h.at p
 
     kind_by : (k : ValueKind) (r : Option Named) → IsNamedIn m units u p r
-        → option_and_then (kind_named tree) r ≡ Some k → HasKind (typed.kind_in tree) (leaf_level (leaf_of vs r)) k
+        → option_and_then (kind_named tree) r ≡ Some k → HasKind (typed.kind_of_number tree) (leaf_level (leaf_of vs r)) k
     kind_by k r (variable {v = v} t f st) e =
         let a = along_on (variables m units) tree.variables.items h.are.is_tree.variables_are v.n t st in
         let q : kind_of_node (slice_get tree.variables.items v.n) ≡ kind_of_domain a.0.domain = ap kind_of_node a.1 in
         let w : kind_of_domain a.0.domain ≡ k =
         kind_one (ap (λ (o : Option VarNode). option_map (λ (d : VarNode). kind_of_domain d.domain) o) a.1) e in
-        subst (λ (z : ValueKind). HasKind (typed.kind_in tree) (Variable v) z) (q ∙ w) kind.variable
+        subst (λ (z : ValueKind). HasKind (typed.kind_of_number tree) (Variable v) z) (q ∙ w) kind.variable
     kind_by k r (parameter {k = n} t f st) e =
         let w = valued_kind h.are.is_tree n t st f.has in
-        let q : kind_of (value_at vs n) ≡ k = one_of_kind (parameter_value n t st f.has).kind w.2 ∙ kind_one w.1 e in
-        subst (λ (z : ValueKind). HasKind (typed.kind_in tree) (Constant (value_at vs n)) z) q kind.constant
+        let q : kind_of (valuation_at vs n) ≡ k = one_of_kind (parameter_value n t st f.has).kind w.2 ∙ kind_one w.1 e in
+        subst (λ (z : ValueKind). HasKind (typed.kind_of_number tree) (Constant (valuation_at vs n)) z) q kind.constant
     kind_by k r (symbol {k = n} i) e =
-        subst (λ (z : ValueKind). HasKind (typed.kind_in tree) (Constant (value.Symbol n)) z) (kind_one refl e)
+        subst (λ (z : ValueKind). HasKind (typed.kind_of_number tree) (Constant (value.Symbol n)) z) (kind_one refl e)
         kind.constant
     kind_by k r (nothing n) e = cc
 
     -- what stands for a path has the kind of what it names
     pub leaf_kind : (sort : Sort) (k : ValueKind) → kind_in (names_for leaves sort) p ≡ Some k
-        → HasKind (typed.kind_in tree) (leaf_level (leaf_in leaves p)) k
+        → HasKind (typed.kind_of_number tree) (leaf_level (leaf_in leaves p)) k
     leaf_kind sort k e = kind_by k (named_in leaves.scopes.now leaves.unit.n p) is_named e
 
     number_by : (x : VarId) (r : Option Named) → IsNamedIn m units u p r → leaf_of vs r ≡ leaf.Variable x
@@ -186,7 +186,7 @@ module _ {m : RootedModel} {units : List UnitPath} {u : UnitPath} {leaves : Unit
         → IsSymbolIn tree v
     symbol_by v r (variable t f st) e = cc
     symbol_by v r (parameter {k = n} t f st) e =
-        let q : value_at vs n ≡ v = cc in
+        let q : valuation_at vs n ≡ v = cc in
         subst (IsSymbolIn tree) q (parameter_symbol n t st f.has)
     symbol_by v r (symbol {k = n} i) e =
         let q : value.Symbol n ≡ v = cc in

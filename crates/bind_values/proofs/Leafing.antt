@@ -26,7 +26,7 @@ use Rattle.bind_scopes.proofs.NamedPaths.{kind_one, name_only, symbol_alone, nam
 use Rattle.bind_values.specs.Leaves.{leaf_of}
 use Rattle.bind_values.specs.Values.{IsValue, IsParameterValue}
 use Rattle.gts_core.proofs.Reading.{read_value}
-use Rattle.gts_core.specs.Readings.{value_at}
+use Rattle.gts_core.specs.Readings.{valuation_at}
 
 module _ {m : RootedModel} {u : UnitPath} {p : Path} (t : Thing) (f : Finds m is_variable u p t) where
   no_own : (x : ℕ) → s.IsOneName p x → PassesTest m is_valued (thing u x) → ⊥
@@ -45,7 +45,7 @@ module _ {m : RootedModel} {u : UnitPath} {p : Path} (t : Thing) (f : Finds m is
 -- the values of the parameters that the path names
 abbrev pub Knows : RootedModel → List UnitPath → UnitPath → Path → List Value → Type 0
 Knows m units u p vs = (t : Thing) (n : ℕ) → Finds m is_valued u p t → Stands (parameters m units) n t
-    → IsValue m t (value_at vs n)
+    → IsValue m t (valuation_at vs n)
 
 -- in a value a path stands for a value, of the kind of what it names
 record IsConstant (m : RootedModel) (u : UnitPath) (p : Path) (l : Leaf) : Type 0 where
@@ -69,7 +69,7 @@ module _ {m : RootedModel} {units : List UnitPath} {u : UnitPath} {p : Path} (vs
   constant_right r (parameter {k = n} t f st) x o nn =
       let v = known t n f st in
       record {
-        value = value_at vs n;
+        value = valuation_at vs n;
         is = refl;
         kind = k.thing t f.leads v.kind;
         leaf_for = leaf.parameter t f v.value;

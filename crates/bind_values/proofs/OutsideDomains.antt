@@ -39,9 +39,9 @@ use Rattle.source_meaning.proofs.OneMeaning.{value_same}
 use Rattle.source_meaning.proofs.OneDomain.{values_same}
 use Rattle.domains.specs.Domains.{values_of}
 use Rattle.bind_scopes.proofs.NamedPaths.{kind_one}
-use Rattle.bind_values.specs.Values.{IsValue, IsDomainAt, BreaksAs, BreaksOne}
+use Rattle.bind_values.specs.Values.{IsValue, IsDomainAt, BreaksAs, BreaksOneValue}
 use Rattle.gts_core.proofs.Reading.{read_value}
-use Rattle.gts_core.specs.Readings.{value_at}
+use Rattle.gts_core.specs.Readings.{valuation_at}
 
 -- Domains
 
@@ -236,10 +236,10 @@ module _ (m : RootedModel) (units : List UnitPath) (things : List Thing) where
       (λ at b. subst (λ (z : Thing). BreaksAs m units z at) (stands_one things n b.thing t b.stands s) b.breaks) h
 
   module _ {A : Type 0} {R : Thing → A → Type 0} (nodes : List A) (rows : Along R things nodes) where
-    pub thing_to : (k : ℕ) (d : A) (at : Place) → Stands nodes k d → BreaksAt k at → BreaksOne m units things at
+    pub thing_to : (k : ℕ) (d : A) (at : Place) → Stands nodes k d → BreaksAt k at → BreaksOneValue m units things at
     thing_to k d at s b = record { thing = b.thing; is_one = one_here things k b.thing b.stands; breaks = b.breaks }
 
-    pub thing_back : (at : Place) → BreaksOne m units things at → (k : ℕ)
+    pub thing_back : (at : Place) → BreaksOneValue m units things at → (k : ℕ)
         × AtItem nodes (λ (j : ℕ) (d : A) (q : Place). BreaksAt j q) k at
     thing_back at b =
         let a = along_on things nodes rows b.is_one.place b.thing b.is_one.stands in (
@@ -263,7 +263,7 @@ along_both xs ys zs f (along.one_and {a = a} {b = b} {xs = more} {ys = bs} r rs)
 
 -- the value that stands at the place of a thing is the thing's
 pub known_value : (P : Thing → Value → Type 0) (things : List Thing) (vs : List Value) → Along P things vs
-    → (k : ℕ) (t : Thing) (v : Value) → Stands things k t → v ≡ value_at vs k → P t v
+    → (k : ℕ) (t : Thing) (v : Value) → Stands things k t → v ≡ valuation_at vs k → P t v
 known_value P things vs rows k t v s e =
     let b = along_on things vs rows k t s in
     subst (λ (z : Value). P t z) (sym (e ∙ read_value vs k b.0 b.1)) b.2

@@ -101,8 +101,8 @@ module _ {m : RootedModel} {units : List UnitPath} {u : UnitPath} {leaves : Unit
     pub expression_typed : IsTypedIn (tree_for leaves) f k
     expression_typed = record {
       typed = typed_whole (StandsFor (leaf_in leaves)) (kind_in (names_for leaves States))
-          (typed.kind_in (tree_for leaves))
-          (λ p l j q w. subst (λ (z : Level VarId). HasKind (typed.kind_in (tree_for leaves)) z j) q
+          (typed.kind_of_number (tree_for leaves))
+          (λ p l j q w. subst (λ (z : Level VarId). HasKind (typed.kind_of_number (tree_for leaves)) z j) q
           (leaf_kind h p States j w)) e (out-Expr VarId f) k
           (λ at x. named at (misnamed_move (λ p may. may_named (names_of h States) p may) x))
           (λ at x. right at (mistyped_move (λ p j n. kind_names (names_of h States) p j n) x)) b;

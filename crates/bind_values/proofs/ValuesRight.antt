@@ -40,7 +40,7 @@ use Rattle.source_meaning.specs.Kinds.{HasKindAt, IsOfKind}
 use Rattle.source_meaning.specs.Tested as s
 use Rattle.source_meaning.specs.Tested.{IsReadable, of_variable, of_parameter, Tested, MayName, scope_of}
 use Rattle.source_meaning.specs.Rules as rules
-use Rattle.source_meaning.specs.BoundExpressions.{IsLeafFor, IsBoundExpression, IsNumberOf}
+use Rattle.source_meaning.specs.BoundExpressions.{IsLeafFor, IsBoundExpression, IsNumberOfVariable}
 use Rattle.source_meaning.proofs.BoundMeaning.{bound_meaning}
 use Rattle.source_meaning.proofs.Attributed.{valued_attribute}
 use Rattle.bind_values.specs.Leaves.{leaf_of}
@@ -135,8 +135,8 @@ module _ {m : RootedModel} {units : List UnitPath} {table : Scopes} (are : AreSc
         go (k, i) =
             let y = whole_valued (HasKindAt m a.unit) stand none (λ _. Truth false) a.value e k (λ p j. let c = constant p j in record { value = c.0; is = c.1; kind = c.2 }) (typed k i) b in
             let w = meant k i in
-            let z = carries VarId Thing none no_facts (λ x r. IsNumberOf m [] r x) (λ x r v q h. absurd h) y.0
-            (renames_turned (IsNumberOf m []) w.numbers) in
+            let z = carries VarId Thing none no_facts (λ x r. IsNumberOfVariable m [] r x) (λ x r v q h. absurd h) y.0
+            (renames_turned (IsNumberOfVariable m []) w.numbers) in
             record {
               value = means.value a w.meaning force w.means z;
               kind = subst (λ (j : ValueKind). IsOfKind m t j) (sym y.1) i;

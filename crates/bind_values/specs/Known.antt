@@ -7,14 +7,14 @@ use Rattle.hierarchy.specs.Units.{UnitPath, Thing}
 use Rattle.hierarchy.specs.Tie.{HasAttribute}
 use Rattle.hierarchy.specs.declared.tree.Attribute.{Attribute}
 use Rattle.source_meaning.specs.Tested.{IsReadable}
-use Rattle.bind_scopes.specs.Indexed.{same_pair}
+use Rattle.bind_scopes.specs.Indexed.{is_same_index}
 use Rattle.bind_scopes.specs.Scopes.{AreScopes}
 use Rattle.bind_scopes.specs.declared.scopes.Scopes.{Scopes}
 use Rattle.bind_values.specs.Values.{AreNamesKept, AreFirst, NamesBefore, IsValue}
 
 -- the value of each thing whose value in force is this one, where these are the values of the first parameters, among
 -- which are all that it may name
-pub record IsKnown (s : Scopes) (parameters : List Value) (a : Attribute) (v : Value) : Type 0 where
+pub record IsScopeKnown (s : Scopes) (parameters : List Value) (a : Attribute) (v : Value) : Type 0 where
   pub value : (m : RootedModel) (units : List UnitPath) (t : Thing) (n : ℕ) → AreScopes m units s → AreNamesKept m units
       → IsReadable m units t → HasAttribute m units t a → AreFirst m units n parameters → NamesBefore m units t n
       → IsValue m t v
@@ -22,4 +22,4 @@ pub record IsKnown (s : Scopes) (parameters : List Value) (a : Attribute) (v : V
 -- each value that is remembered is that of what it is remembered with
 pub record AreKnown {S : Type 0} (s : Scopes) (parameters : List Value)
     (known : HashMap (ℕ × ℕ) (Attribute × Value) S) : Type 0 where
-  pub each : (k : ℕ × ℕ) (e : Attribute × Value) → get same_pair known k ≡ Some e → IsKnown s parameters e.0 e.1
+  pub each : (k : ℕ × ℕ) (e : Attribute × Value) → get is_same_index known k ≡ Some e → IsScopeKnown s parameters e.0 e.1

@@ -26,8 +26,8 @@ kind_of_node (Some d) = kind_of_domain d.domain
 kind_of_node None = kind.Truth
 
 -- the kind of the variable of this number
-abbrev pub kind_in : Tree → VarId → ValueKind
-kind_in t x = kind_of_node (slice_get t.variables.items x.n)
+abbrev pub kind_of_number : Tree → VarId → ValueKind
+kind_of_number t x = kind_of_node (slice_get t.variables.items x.n)
 
 -- the value is no symbol, or one that the model has
 abbrev pub IsSymbolIn : Tree → Value → Type 0
@@ -37,7 +37,7 @@ IsSymbolIn t (value.Symbol k) = k < length t.classes.symbols.items
 
 -- the expression has the kind, its variables are those of the tree, and its symbols those of the model
 pub record IsTypedIn (t : Tree) (e : Expr VarId) (k : ValueKind) : Type 0 where
-  pub typed : HasKind (kind_in t) (out-Expr VarId e) k
+  pub typed : HasKind (kind_of_number t) (out-Expr VarId e) k
   pub variables : (x : VarId) → Mentions x (out-Expr VarId e) → x.n < length t.variables.items
   pub symbols : (v : Value) → IsSubexpression (Constant v) (out-Expr VarId e) → IsSymbolIn t v
 

@@ -86,7 +86,7 @@ pub record BreaksAs (m : RootedModel) (units : List UnitPath) (t : Thing) (p : P
   pub thing : breaks.thing ≡ t
 
 -- that of one of these things does so
-pub record BreaksOne (m : RootedModel) (units : List UnitPath) (things : List Thing) (p : Place) : Type 0 where
+pub record BreaksOneValue (m : RootedModel) (units : List UnitPath) (things : List Thing) (p : Place) : Type 0 where
   pub thing : Thing
   pub is_one : IsOneOf things thing
   pub breaks : BreaksAs m units thing p

@@ -8,7 +8,7 @@ ghost use Rattle.hierarchy.specs.Models.{RootedModel};
 ghost use Rattle.hierarchy.specs.Units.{UnitPath};
 ghost use Rattle.hierarchy.specs.Listing.{variables, parameters as parameters_of};
 ghost use Rattle.bind_scopes.specs.Scopes.{AreScopes, HasScopes};
-ghost use Rattle.bind_values.specs.Known.{IsKnown, AreKnown};
+ghost use Rattle.bind_values.specs.Known.{IsScopeKnown, AreKnown};
 ghost use Rattle.bind_values.specs.Values.{AreNamesKept, IsValue, IsParameterValue};
 
 use crate::leaves::UnitLeaves;
@@ -48,6 +48,25 @@ impl Env<VarId> for NoVariables {
     }
 }
 
+/// The values of all parameters, in the tree's order. The error is want of memory.
+pub(crate) fn parameter_values(alloc: Global, scopes: &Scopes<'_>) -> Result<Vec<Value>, Memory>
+    requires { HasScopes scopes.now }
+    ensures { (m : RootedModel) (units : List UnitPath) → AreScopes m units scopes.now
+        → AreNamesKept m units
+        → IfOk result (λ v. Along (IsParameterValue m) (parameters_of m units) v.items) }
+{
+    let mut values = Vec::new(alloc);
+    for (place, node) in scopes.tree.parameters.iter().enumerate() {
+        let value = if scopes.is_read(place as u32) {
+            value_in(alloc, scopes, &values, node.value)?
+        } else {
+            Value::Truth(false)
+        };
+        values.push(value)?;
+    }
+    Ok(values)
+}
+
 // The value of what has this attribute, where the values of the parameters that it may name are
 // known; false where nothing is written there.
 fn value_in(
@@ -57,7 +76,7 @@ fn value_in(
     value: Attribute,
 ) -> Result<Value, Memory>
     requires { HasScopes scopes.now }
-    ensures { IfOk result (IsKnown scopes.now parameters.now value) }
+    ensures { IfOk result (IsScopeKnown scopes.now parameters.now value) }
 {
     let Some(expr) = written(&scopes.tree.classes, value.source) else {
         return Ok(Value::Truth(false));
@@ -97,7 +116,7 @@ fn value_once(
 ) -> Result<Value, Memory>
     requires { HasScopes scopes.now }
     ensures value { AreKnown scopes.now parameters.now known.old
-        → IfOk result (IsKnown scopes.now parameters.now value) }
+        → IfOk result (IsScopeKnown scopes.now parameters.now value) }
     ensures known { AreKnown scopes.now parameters.now known.old
         → OnOk result (AreKnown scopes.now parameters.now known.new) }
 {
@@ -110,25 +129,6 @@ fn value_once(
     let found = value_in(alloc, scopes, parameters, value)?;
     known.insert(spot, (value, found))?;
     Ok(found)
-}
-
-/// The values of all parameters, in the tree's order. The error is want of memory.
-pub(crate) fn parameter_values(alloc: Global, scopes: &Scopes<'_>) -> Result<Vec<Value>, Memory>
-    requires { HasScopes scopes.now }
-    ensures { (m : RootedModel) (units : List UnitPath) → AreScopes m units scopes.now
-        → AreNamesKept m units
-        → IfOk result (λ v. Along (IsParameterValue m) (parameters_of m units) v.items) }
-{
-    let mut values = Vec::new(alloc);
-    for (place, node) in scopes.tree.parameters.iter().enumerate() {
-        let value = if scopes.is_read(place as u32) {
-            value_in(alloc, scopes, &values, node.value)?
-        } else {
-            Value::Truth(false)
-        };
-        values.push(value)?;
-    }
-    Ok(values)
 }
 
 /// The values of the `init` and `reset` of all variables, in the tree's order, where these are the

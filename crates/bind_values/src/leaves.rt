@@ -1,6 +1,6 @@
 //! What paths stand for, where the values of parameters are known.
 
-ghost use Rattle.bind_values.specs.Leaves.{leaf_in, IsInTree};
+ghost use Rattle.bind_values.specs.Leaves.{leaf_in, IsUnitInTree};
 
 use ar_base::UnitId;
 use ar_syntax::Path;
@@ -22,7 +22,7 @@ pub struct UnitLeaves<'a, 't> {
 }
 
 impl<'a, 't> Leaves for UnitLeaves<'a, 't> {
-    ghost is_sound = { λ s. IsInTree s };
+    ghost is_sound = { λ s. IsUnitInTree s };
 
     ghost leaf_at = { λ s p. leaf_in s p };
 

@@ -10,7 +10,7 @@ ghost use Rattle.hierarchy.specs.Listing.{variables, parameters};
 ghost use Rattle.hierarchy.specs.Tie.{HasAttribute};
 ghost use Rattle.source_meaning.specs.Tested.{IsReadable};
 ghost use Rattle.bind_scopes.specs.Scopes.{AreScopes};
-ghost use Rattle.bind_values.specs.Values.{IsValue, IsParameterValue, IsDomainAt, BreaksAs, BreaksOne};
+ghost use Rattle.bind_values.specs.Values.{IsValue, IsParameterValue, IsDomainAt, BreaksAs, BreaksOneValue};
 
 use ar_base::Place;
 use bind_scopes::{Scopes, written};
@@ -18,6 +18,22 @@ use class_table::earliest::earliest;
 use domains::{Domain, Value};
 use gts_core::value_at;
 use hierarchy::Attribute;
+
+/// The earliest place of a value of a variable that is outside its domain.
+pub(crate) fn outside_variables(scopes: &Scopes<'_>, values: &[Value]) -> Option<Place>
+    ensures { (m : RootedModel) (units : List UnitPath) → AreScopes m units scopes.now
+        → Along (IsValue m) (variables m units) values.now
+        → IsEarliest (BreaksOneValue m units (variables m units)) result }
+{
+    let mut found = None;
+    for (place, node) in scopes.tree.variables.iter().enumerate() {
+        found = earliest(
+            found,
+            outside(scopes, &node.domain, value_at(values, place), node.value),
+        );
+    }
+    found
+}
 
 // Whether the domain has the value.
 fn holds(domain: &Domain, value: Value) -> bool
@@ -51,27 +67,11 @@ fn outside(
     }
 }
 
-/// The earliest place of a value of a variable that is outside its domain.
-pub(crate) fn outside_variables(scopes: &Scopes<'_>, values: &[Value]) -> Option<Place>
-    ensures { (m : RootedModel) (units : List UnitPath) → AreScopes m units scopes.now
-        → Along (IsValue m) (variables m units) values.now
-        → IsEarliest (BreaksOne m units (variables m units)) result }
-{
-    let mut found = None;
-    for (place, node) in scopes.tree.variables.iter().enumerate() {
-        found = earliest(
-            found,
-            outside(scopes, &node.domain, value_at(values, place), node.value),
-        );
-    }
-    found
-}
-
 /// The earliest place of a value of a parameter that is outside its domain.
 pub(crate) fn outside_parameters(scopes: &Scopes<'_>, values: &[Value]) -> Option<Place>
     ensures { (m : RootedModel) (units : List UnitPath) → AreScopes m units scopes.now
         → Along (IsParameterValue m) (parameters m units) values.now
-        → IsEarliest (BreaksOne m units (parameters m units)) result }
+        → IsEarliest (BreaksOneValue m units (parameters m units)) result }
 {
     let mut found = None;
     for (place, node) in scopes.tree.parameters.iter().enumerate() {

@@ -23,11 +23,11 @@ use Rattle.mode_trees.specs.Ways.{OwnTheirWays}
 use Rattle.mode_trees.specs.declared.forests.Edge.{Edge}
 use Rattle.mode_trees.specs.declared.forests.ModeTree.{ModeTree}
 use Rattle.text_pieces.specs.WayLabels.{way_label}
-use Rattle.cut_text.specs.Printed.{HaveOneWay, AreOfEdges, HasEdge, edges_of, events_text}
-use Rattle.cut_text.specs.Tables.{AreWaysOf, texts_at}
+use Rattle.cut_text.specs.Printed.{HaveOneWay, AreOfEdges, HasEdge, forest_edges, events_text}
+use Rattle.cut_text.specs.Tables.{HasEdgeWays, texts_at}
 use Rattle.cut_text.specs.Texts.{braced}
 use Rattle.eq_core.specs.Values.{has_event}
-use Rattle.check_text.specs.Printed.{all_among, listed_in, missing_one, missing_at, missing_text, is_chain_above, chain_line, verdict_lines, all_verdicts_good, all_listed, check_text}
+use Rattle.check_text.specs.Printed.{all_among, listed_in, missing_one, missing_at, missing_text, is_chain_above, chain_line, verdict_lines, all_verdicts_good, all_listed, text_of_check}
 use Rattle.check_text.specs.Texts.{later, last_line}
 use Rattle.cut_text.proofs.Known.{same_map}
 use Rattle.cut_text.proofs.TableLemmas.{tree_of_edge}
@@ -110,7 +110,7 @@ on_ok P (Ok u) h = h
 on_ok P (Err e) h = tt
 
 -- the missing lines by the edges
-pub same_missing : (edges : List Edge) → HaveOneWay edges → (ways : List WayId) → AreWaysOf edges ways
+pub same_missing : (edges : List Edge) → HaveOneWay edges → (ways : List WayId) → HasEdgeWays edges ways
     → (p : GtsParts) (lines : List (List Label)) (sets : List (List ℕ)) → AreOfEdges edges sets
     → missing_at p ways lines sets ≡ missing_text p edges lines sets
 same_missing edges one ways are p lines [] h = refl
@@ -133,12 +133,12 @@ next_chain order chains left i c lt is =
     ++ verdict_lines order (drop (i + 1) chains) (later (is_chain_above order d) left)) (sym is)
 
 -- the whole text by the table of ways
-pub whole_text : (edges : List Edge) → HaveOneWay edges → (ways : List WayId) → AreWaysOf edges ways
+pub whole_text : (edges : List Edge) → HaveOneWay edges → (ways : List WayId) → HasEdgeWays edges ways
     → (p : GtsParts) (order : Option ℕ) (chains short : List Chain) (vs : List Verdict) (sets : List (List ℕ))
     → AreOfEdges edges sets
     → (b : Bool) → b ≡ (all_verdicts_good vs && all_listed (chain_lines p short) sets)
     → verdict_lines order chains vs ++ (missing_at p ways (chain_lines p short) sets ++ last_line order b)
-    ≡ check_text p edges order chains short vs sets
+    ≡ text_of_check p edges order chains short vs sets
 whole_text edges one ways are p order chains short vs sets h b e =
     ap (λ (z : List ℕ). verdict_lines order chains vs ++ (z ++ last_line order b))
     (same_missing edges one ways are p (chain_lines p short) sets h)
@@ -158,7 +158,7 @@ module _ (p : GtsParts) where
   }
 
   -- the events of edges are events of the system
-  edge_number : IsSound p → (ts : List ModeTree) → OwnTheirWays p ts → (e : ℕ) → HasEdge (edges_of ts) e
+  edge_number : IsSound p → (ts : List ModeTree) → OwnTheirWays p ts → (e : ℕ) → HasEdge (forest_edges ts) e
       → e < length p.events.items
   edge_number sound ts own e h =
       let t = tree_of_edge ts h.edge h.is_edge in
@@ -168,7 +168,7 @@ module _ (p : GtsParts) where
       (stands_within p.events.items o.way.event.n event.event event.stands)
 
   pub set_numbers : IsSound p → (ts : List ModeTree) → OwnTheirWays p ts → (sets : List (List ℕ))
-      → AreOfEdges (edges_of ts) sets → HaveEventNumbers p sets
+      → AreOfEdges (forest_edges ts) sets → HaveEventNumbers p sets
   set_numbers sound ts own sets h = record {
     each = λ events o. record { each = λ e q. edge_number sound ts own e (h.each events o e q) };
   }

@@ -12,20 +12,20 @@ use Rattle.ar_meaning.specs.Systems.{System}
 use Rattle.ar_meaning.specs.Runs.{Label}
 use Rattle.gts_core.specs.declared.bound.Chain.{Chain}
 use Rattle.gts_core.specs.declared.system.GtsParts.{GtsParts}
-use Rattle.job_inputs.specs.Chains.{cut_of, labels_of}
+use Rattle.job_inputs.specs.Chains.{cut_of, chain_labels}
 use Rattle.job_inputs.specs.CutLists.{CutLine}
-use Rattle.cut_check.specs.Flat.{Tells, IsVerdict}
+use Rattle.cut_check.specs.Flat.{TellsVerdict, IsVerdict}
 use Rattle.cut_check.specs.Verdicts.{Said, IsSaid}
 use Rattle.cut_check.specs.declared.checking.Verdict.{Verdict}
 use Rattle.cut_check.specs.declared.checking.Verdict.TheVariants as verdict
-use Rattle.text_pieces.specs.WayLabels.{label_of}
+use Rattle.text_pieces.specs.WayLabels.{numbered_label}
 use Rattle.check_text.specs.Printed.{verdict_text, is_chain_above, chain_line, verdict_lines, all_verdicts_good}
 use Rattle.check_text.specs.Texts.{is_above, later, number_found, said_text, cut_line, said_lines, is_good, all_good}
 
 -- a chain is above the order where its cut line is
 pub above_same : (p : GtsParts) (order : Option ℕ) (c : Chain)
-    → is_above order (length (labels_of p c.ways.items)) ≡ is_chain_above order c
-above_same p order c = ap (is_above order) (length-map c.ways.items (λ (w : WayId). label_of p w.n))
+    → is_above order (length (chain_labels p c.ways.items)) ≡ is_chain_above order c
+above_same p order c = ap (is_above order) (length-map c.ways.items (λ (w : WayId). numbered_label p w.n))
 
 module _ (p : GtsParts) (sys : System ℕ) (dropped : List ℕ) (observer : Expr ℕ) (wanted : Value)
     (lines : List (List Label)) (chains : List Chain) where
@@ -33,7 +33,7 @@ module _ (p : GtsParts) (sys : System ℕ) (dropped : List ℕ) (observer : Expr
   cuts = map (cut_of p) chains
 
   -- a verdict's text is that of what is said
-  text_same : (v : Verdict) (said : Said) → Tells chains v said → verdict_text v ≡ said_text cuts said
+  text_same : (v : Verdict) (said : Said) → TellsVerdict chains v said → verdict_text v ≡ said_text cuts said
   text_same verdict.Good said e = ap (said_text cuts) (sym e)
   text_same verdict.Fails said e = ap (said_text cuts) (sym e)
   text_same (verdict.Holds n) said (k, c, s, e, i) =
@@ -41,7 +41,7 @@ module _ (p : GtsParts) (sys : System ℕ) (dropped : List ℕ) (observer : Expr
       let same : number_found (slice_get cuts k) ≡ n = ap number_found at_k ∙ e in
       sym (ap (λ (z : ℕ). codes "holds line " ++ decimal z) same) ∙ sym (ap (said_text cuts) i)
 
-  good_same : (v : Verdict) (vs : List Verdict) (said : Said) (all : List Said) → Tells chains v said
+  good_same : (v : Verdict) (vs : List Verdict) (said : Said) (all : List Said) → TellsVerdict chains v said
       → all_verdicts_good vs ≡ all_good all
       → all_verdicts_good (v ∷ vs) ≡ all_good (said ∷ all)
   good_same verdict.Good vs said all e h = h ∙ ap (λ (z : Said). is_good z && all_good all) (sym e)

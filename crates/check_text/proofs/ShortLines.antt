@@ -6,10 +6,10 @@ use Rattle.ar_base.specs.Numbers.{WayId}
 use Rattle.ar_meaning.specs.Runs.{Label}
 use Rattle.gts_core.specs.declared.bound.Chain.{Chain}
 use Rattle.gts_core.specs.declared.system.GtsParts.{GtsParts}
-use Rattle.job_inputs.specs.Chains.{cut_of, labels_of, HaveKnownWays}
+use Rattle.job_inputs.specs.Chains.{cut_of, chain_labels, HaveKnownWays}
 use Rattle.job_inputs.specs.CutLists.{CutLine}
 use Rattle.cut_check.specs.Flat.{chain_lines}
-use Rattle.check_text.specs.Printed.{is_chain_above, kept_chain, chains_within, parts_of}
+use Rattle.check_text.specs.Printed.{is_chain_above, kept_chain, chains_within, chain_parts}
 use Rattle.check_text.specs.Texts.{kept_line, within_order, lines_in}
 use Rattle.check_text.proofs.SaidLemmas.{above_same}
 
@@ -17,13 +17,13 @@ module _ (p : GtsParts) where
   -- the lines of chains as cut lines
   pub lines_are : (chains : List Chain) → lines_in (map (cut_of p) chains) ≡ chain_lines p chains
   lines_are [] = refl
-  lines_are (c ∷ cs) = ap (λ (z : List (List Label)). labels_of p c.ways.items ∷ z) (lines_are cs)
+  lines_are (c ∷ cs) = ap (λ (z : List (List Label)). chain_labels p c.ways.items ∷ z) (lines_are cs)
 
   -- a cut line is known by the line and the ways of its chain
   abbrev cut_by : ℕ × List WayId → CutLine
-  cut_by parts = record { number = parts.0; labels = labels_of p parts.1 }
+  cut_by parts = record { number = parts.0; labels = chain_labels p parts.1 }
 
-  by_parts : (chains : List Chain) → map (cut_of p) chains ≡ map cut_by (map parts_of chains)
+  by_parts : (chains : List Chain) → map (cut_of p) chains ≡ map cut_by (map chain_parts chains)
   by_parts [] = refl
   by_parts (c ∷ cs) = ap (λ (z : List CutLine). cut_of p c ∷ z) (by_parts cs)
 
@@ -41,7 +41,7 @@ module _ (p : GtsParts) where
       ∙ ap (λ (b : Bool). kept_line b (cut_of p c) (within_order order (map (cut_of p) cs))) (sym (above_same p order c))
 
   pub short_are : (order : Option ℕ) (chains short : List Chain)
-      → map parts_of short ≡ map parts_of (chains_within order chains)
+      → map chain_parts short ≡ map chain_parts (chains_within order chains)
       → map (cut_of p) short ≡ within_order order (map (cut_of p) chains)
   short_are order chains short e =
       by_parts short ∙ ap (map cut_by) e ∙ sym (by_parts (chains_within order chains)) ∙ within_same order chains
@@ -61,12 +61,12 @@ module _ (p : GtsParts) where
       ]
 
   pub short_known : (order : Option ℕ) (chains short : List Chain)
-      → map parts_of short ≡ map parts_of (chains_within order chains) → HaveKnownWays p chains → HaveKnownWays p short
+      → map chain_parts short ≡ map chain_parts (chains_within order chains) → HaveKnownWays p chains → HaveKnownWays p short
   short_known order chains short e known = record {
     each = λ c o w q.
-        let at = stands_map parts_of short o.place c o.stands in
-        let there = subst (λ (z : List (ℕ × List WayId)). Stands z o.place (parts_of c)) e at in
-        let back = stands_map_back parts_of (chains_within order chains) o.place (parts_of c) there in
+        let at = stands_map chain_parts short o.place c o.stands in
+        let there = subst (λ (z : List (ℕ × List WayId)). Stands z o.place (chain_parts c)) e at in
+        let back = stands_map_back chain_parts (chains_within order chains) o.place (chain_parts c) there in
         let one = within_one order chains back.0 (one_here (chains_within order chains) o.place back.0 back.1) in
         known.each back.0 one w (subst (λ (z : ℕ × List WayId). IsOneOf z.1 w) (sym back.2) q);
   }

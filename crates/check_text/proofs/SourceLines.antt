@@ -1,7 +1,7 @@
 -- The lines and labels of the sets of a flat system are those of its source.
 use Rattle.std.proofs.Common.{◌≡◌, ℕ, List, [], ◌∷◌, map, refl, sym, ◌∙◌, ap, subst}
 use Rattle.ar_base.specs.Texts.{text_at}
-use Rattle.typed_expr.specs.PairsInside.{turned}
+use Rattle.typed_expr.specs.PairsInside.{turned_pairs}
 use Rattle.ar_meaning.specs.Systems.{System}
 use Rattle.ar_meaning.specs.FactsInside.{AreKeyed}
 use Rattle.ar_meaning.specs.TraceText.{Naming, label_text, way_text}
@@ -22,9 +22,9 @@ use Rattle.mode_trees.specs.Views.{trees_of}
 use Rattle.mode_trees.specs.declared.forests.Edge.{Edge}
 use Rattle.mode_trees.specs.declared.forests.Forest.{Forest}
 use Rattle.min_cuts.specs.Lines.{IsInFiringOrder}
-use Rattle.text_pieces.specs.WayLabels.{label_of, way_label}
+use Rattle.text_pieces.specs.WayLabels.{numbered_label, way_label}
 use Rattle.text_pieces.proofs.Ways.{label_alike}
-use Rattle.cut_text.specs.Printed.{edges_of, way_in, labels_in, events_text, things_of, IsForestOf}
+use Rattle.cut_text.specs.Printed.{forest_edges, way_in, labels_in, events_text, things_of, IsForestOf}
 use Rattle.cut_text.specs.Texts.{braced, labels_text}
 use Rattle.cut_text.proofs.FlatLines.{flat_line}
 
@@ -37,7 +37,7 @@ module _ (x : Elaborated) (p : GtsParts) (flat : System ℕ) (dropped : List ℕ
   names = naming_of x.declarations
 
   abbrev edges : List Edge
-  edges = edges_of f.trees.items
+  edges = forest_edges f.trees.items
 
   pub is_flat_of : IsFlatOf things x.system flat
   is_flat_of = subst (λ (z : System ℕ). IsFlatOf things x.system z)
@@ -57,23 +57,23 @@ module _ (x : Elaborated) (p : GtsParts) (flat : System ℕ) (dropped : List ℕ
   pub source_set : (set events : List ℕ) → IsInFiringOrder (trees_of (λ n. n) f) set events
       → IsLine x.system dropped set (labels_in p edges events)
   source_set set events g =
-      line_there (turned (IsNumber things)) flat x.system (flat_back things x.system flat is_flat_of) dropped
+      line_there (turned_pairs (IsNumber things)) flat x.system (flat_back things x.system flat is_flat_of) dropped
       (flat_set set events g)
 
   -- the labels
-  label_is : (n : ℕ) → way_label p n ≡ label_text names x.system (label_of p n)
+  label_is : (n : ℕ) → way_label p n ≡ label_text names x.system (numbered_label p n)
   label_is n =
       sym (label_alike p flat h.views n)
-      ∙ ap (λ (z : Naming). label_text z flat (label_of p n)) h.is_flat.names
-      ∙ ap (λ (z : ℕ). way_text (text_at names.events (label_of p n).event) z (label_of p n).way)
-      (sym (ways_count (IsNumber things) is_flat_of.events (label_of p n).event))
+      ∙ ap (λ (z : Naming). label_text z flat (numbered_label p n)) h.is_flat.names
+      ∙ ap (λ (z : ℕ). way_text (text_at names.events (numbered_label p n).event) z (numbered_label p n).way)
+      (sym (ways_count (IsNumber things) is_flat_of.events (numbered_label p n).event))
 
   labels_are : (events : List ℕ)
       → map (λ e. way_label p (way_in edges e)) events ≡ map (label_text names x.system) (labels_in p edges events)
   labels_are [] = refl
   labels_are (e ∷ es) =
       ap (λ (z : List ℕ). z ∷ map (λ e. way_label p (way_in edges e)) es) (label_is (way_in edges e))
-      ∙ ap (λ (z : List (List ℕ)). label_text names x.system (label_of p (way_in edges e)) ∷ z) (labels_are es)
+      ∙ ap (λ (z : List (List ℕ)). label_text names x.system (numbered_label p (way_in edges e)) ∷ z) (labels_are es)
 
   pub text_is : (events : List ℕ) → events_text p edges events ≡ labels_text names x.system (labels_in p edges events)
   text_is events = ap braced (labels_are events)

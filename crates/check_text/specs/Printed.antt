@@ -53,8 +53,8 @@ chains_within order [] = []
 chains_within order (c ∷ cs) = kept_chain (is_chain_above order c) c (chains_within order cs)
 
 -- a chain's line and its ways
-abbrev pub parts_of : Chain → ℕ × List WayId
-parts_of c = (c.line, c.ways.items)
+abbrev pub chain_parts : Chain → ℕ × List WayId
+chain_parts c = (c.line, c.ways.items)
 
 -- whether each of these numbers is one of the others
 abbrev pub all_among : List ℕ → List ℕ → Bool
@@ -95,7 +95,7 @@ missing_at p ways lines [] = []
 missing_at p ways lines (events ∷ more) = missing_one p ways lines events ++ missing_at p ways lines more
 
 -- the whole text, where the short ones of the chains are checked
-abbrev pub check_text : GtsParts → List Edge → Option ℕ → List Chain → List Chain → List Verdict → List (List ℕ) → List ℕ
-check_text p edges order chains short verdicts lists =
+abbrev pub text_of_check : GtsParts → List Edge → Option ℕ → List Chain → List Chain → List Verdict → List (List ℕ) → List ℕ
+text_of_check p edges order chains short verdicts lists =
     verdict_lines order chains verdicts ++ (missing_text p edges (chain_lines p short) lists
     ++ last_line order (all_verdicts_good verdicts && all_listed (chain_lines p short) lists))

@@ -23,8 +23,8 @@ ghost use Rattle.job_inputs.specs.CutLists.{CutLine};
 ghost use Rattle.cut_check.specs.Flat.{AreVerdicts};
 ghost use Rattle.cut_check.specs.VerdictsInside.{AreTheCuts};
 ghost use Rattle.cut_check.specs.declared.checking.Verdict.{Verdict as TheVerdict};
-ghost use Rattle.cut_text.specs.Printed.{edges_of, things_of, IsForestOf};
-ghost use Rattle.check_text.specs.Printed.{check_text, chains_within, parts_of};
+ghost use Rattle.cut_text.specs.Printed.{forest_edges, things_of, IsForestOf};
+ghost use Rattle.check_text.specs.Printed.{text_of_check, chains_within, chain_parts};
 ghost use Rattle.check_text.specs.Texts.{IsCheckText, lines_in, within_order};
 ghost use Rattle.check_text.specs.TextsInside.{EndsYes};
 
@@ -41,11 +41,11 @@ pub fn check_of_the_source()
         → AreListed (AndUpTo order (Cut flat dropped other wanted)) sets
         → AreInFiringOrder (trees_of (λ n. n) f) sets lists
         → (chains short : List TheChain) (verdicts : List TheVerdict)
-        → map parts_of short ≡ map parts_of (chains_within order chains)
+        → map chain_parts short ≡ map chain_parts (chains_within order chains)
         → AreVerdicts p flat dropped other wanted short verdicts
         → IsCheckText order (naming_of x.declarations) x.system dropped observer wanted
         (map (cut_of p) chains)
-        (check_text p (edges_of f.trees.items) order chains short verdicts lists) }
+        (text_of_check p (forest_edges f.trees.items) order chains short verdicts lists) }
 {
     one_system();
 }

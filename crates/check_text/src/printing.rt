@@ -1,18 +1,18 @@
 //! The lines of verdicts and of missing cuts.
 
 ghost use Rattle.std.specs.Prelude.{◌≡◌, ◌&&◌, if◌then◌else◌, codes, List, OnOk};
-ghost use Rattle.ar_io.specs.WritingInside.{Writes};
+ghost use Rattle.ar_io.specs.Handing.{Writes};
 ghost use Rattle.ar_meaning.specs.Runs.{Label};
 ghost use Rattle.mode_trees.specs.Ways.{OwnTheirWays};
-ghost use Rattle.min_cuts.specs.Kept.{numbers};
+ghost use Rattle.min_cuts.specs.Kept.{numbers_of_set};
 ghost use Rattle.job_inputs.specs.Chains.{HaveKnownWays};
 ghost use Rattle.cut_check.specs.LineSets.{AreLineSets, AreSomeLineSets, AreEventNumbers};
 ghost use Rattle.cut_check.specs.LineSets.{HaveEventNumbers};
 ghost use Rattle.cut_text.specs.Answers.{Prints};
-ghost use Rattle.cut_text.specs.Printed.{edges_of, HaveOneWay, AreOfEdges};
+ghost use Rattle.cut_text.specs.Printed.{forest_edges, HaveOneWay, AreOfEdges};
 ghost use Rattle.cut_text.specs.Tables.{HaveWays, AllHaveWays};
 ghost use Rattle.check_text.specs.Printed.{verdict_text, verdict_line, chain_line, verdict_lines, all_verdicts_good};
-ghost use Rattle.check_text.specs.Printed.{listed_in, all_listed, missing_one, missing_at, check_text};
+ghost use Rattle.check_text.specs.Printed.{listed_in, all_listed, missing_one, missing_at, text_of_check};
 ghost use Rattle.check_text.specs.Texts.{above_line, later, last_line};
 
 use crate::short::is_above;
@@ -51,11 +51,11 @@ pub fn print_check<K: Sink>(
     out: &mut K,
 ) -> Result<(), PrintFault>
     requires own { OwnTheirWays gts.now forest.now.trees.items }
-    requires one_way { HaveOneWay (edges_of forest.now.trees.items) }
-    requires known { AreOfEdges (edges_of forest.now.trees.items) lister }
+    requires one_way { HaveOneWay (forest_edges forest.now.trees.items) }
+    requires known { AreOfEdges (forest_edges forest.now.trees.items) lister }
     requires ways { HaveKnownWays gts.now list.now.short.now }
     ensures { Prints (K.state out.old) (K.state out.new)
-        (check_text gts.now (edges_of forest.now.trees.items) list.now.order list.now.chains.now
+        (text_of_check gts.now (forest_edges forest.now.trees.items) list.now.order list.now.chains.now
         list.now.short.now list.now.verdicts.now lister) result }
 {
     let _sound_parts = gts.parts();
@@ -221,16 +221,16 @@ fn missing_line<K: Sink>(
     events: &[EventId],
     whole: &mut bool,
 ) -> Result<(), SinkFailed>
-    requires ways { HaveWays gts.now ways.now (numbers events.now) }
-    requires events { AreEventNumbers gts.now (numbers events.now) }
+    requires ways { HaveWays gts.now ways.now (numbers_of_set events.now) }
+    requires events { AreEventNumbers gts.now (numbers_of_set events.now) }
     requires sets { AreSomeLineSets gts.now sets.old }
     ensures same { (lines : List (List Label)) → AreLineSets gts.now lines sets.old
         → AreLineSets gts.now lines sets.new }
     ensures text { (lines : List (List Label)) → AreLineSets gts.now lines sets.old
         → Writes (K.state out.old) (K.state out.new)
-        (missing_one gts.now ways.now lines (numbers events.now)) result }
+        (missing_one gts.now ways.now lines (numbers_of_set events.now)) result }
     ensures whole { (lines : List (List Label)) → AreLineSets gts.now lines sets.old
-        → OnOk result (whole.new ≡ (whole.old && listed_in lines (numbers events.now))) }
+        → OnOk result (whole.new ≡ (whole.old && listed_in lines (numbers_of_set events.now))) }
 {
     if sets.has(events) {
         return write_text(out, "");

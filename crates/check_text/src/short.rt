@@ -1,7 +1,7 @@
 //! The lines of a list that are checked where the cuts of at most so many events are meant.
 
 ghost use Rattle.std.specs.Prelude.{◌≡◌, IfOk, map};
-ghost use Rattle.check_text.specs.Printed.{chains_within, parts_of};
+ghost use Rattle.check_text.specs.Printed.{chains_within, chain_parts};
 ghost use Rattle.check_text.specs.Texts.{is_above};
 
 use ar_base::Memory;
@@ -15,7 +15,7 @@ pub fn short_chains(
     chains: &[Chain],
 ) -> Result<Vec<Chain>, Memory>
     ensures { IfOk result (λ short.
-        map parts_of short.items ≡ map parts_of (chains_within order chains.now)) }
+        map chain_parts short.items ≡ map chain_parts (chains_within order chains.now)) }
 {
     let mut short = Vec::new(alloc);
     for chain in chains {
@@ -38,7 +38,7 @@ pub(crate) fn is_above(order: Option<u32>, labels: usize) -> bool
 
 // A chain of the same line and ways.
 fn copied(chain: &Chain) -> Result<Chain, Memory>
-    ensures { IfOk result (λ copy. parts_of copy ≡ parts_of chain.now) }
+    ensures { IfOk result (λ copy. chain_parts copy ≡ chain_parts chain.now) }
 {
     let ways = chain.ways.clone()?;
     Ok(Chain {

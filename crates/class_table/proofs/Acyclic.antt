@@ -8,8 +8,8 @@ use Rattle.ar_base.proofs.Few.{AllDiffer, nothing, new, few}
 use Rattle.ar_syntax.specs.declared.items.Model.{Model}
 use Rattle.class_table.specs.Declaring.{Declared, IsDeclared}
 use Rattle.class_table.specs.Rules.{HasInside, class, block, IsWithin, itself, further, BreaksContainment}
-use Rattle.class_table.specs.Rows.{AreInside}
-use Rattle.class_table.specs.Ordering.{IsOrder, IsComplete}
+use Rattle.class_table.specs.Rows.{AreInnerBodies}
+use Rattle.class_table.specs.Ordering.{IsBodyOrder, IsComplete}
 use Rattle.class_table.proofs.Nesting.{block_later, inside_there}
 
 -- inside what is inside
@@ -38,7 +38,7 @@ ordered_not_again d order after k a b s h w = go k k a b s h w (omega arith)
         go top v.0 a b v.2 h w (omega (arith, u.1, v.1, l))
 
 -- where an order has all bodies, no type name breaks the rule
-pub none_again : (d : Declared) (rows : List (Vec ℕ Global)) (order : List ℕ) → AreInside d rows → IsOrder rows order
+pub none_again : (d : Declared) (rows : List (Vec ℕ Global)) (order : List ℕ) → AreInnerBodies d rows → IsBodyOrder rows order
     → length rows ≤ length order → (p : Place) → BreaksContainment d p → ⊥
 none_again d rows order inside is_order long p h =
     let i = class h.member h.stands h.names in
@@ -68,7 +68,7 @@ module _ {model : Model} {d : Declared} (declared : IsDeclared model d)
       let m = block_later declared a x at id s in
       omega (arith, l, m)
 
-  module _ (rows : List (Vec ℕ Global)) (order : List ℕ) (inside : AreInside d rows) (is_order : IsOrder rows order) where
+  module _ (rows : List (Vec ℕ Global)) (order : List ℕ) (inside : AreInnerBodies d rows) (is_order : IsBodyOrder rows order) where
     is_one : (xs : List ℕ) (b : ℕ) → IsOneOf xs b ⊎ (IsOneOf xs b → ⊥)
     is_one [] b = inr (one_none b)
     is_one (x ∷ xs) b = elim (cases_eq x b) [

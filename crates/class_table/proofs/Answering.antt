@@ -20,7 +20,7 @@ use Rattle.class_table.specs.Rules.{BreaksItems, BreaksTypes, BreaksContainment,
 use Rattle.class_table.specs.Earliest.{IsEarliest, nowhere, there}
 use Rattle.class_table.specs.Testing.{TakesApart, parts, wrong, AreAsDeclared}
 use Rattle.class_table.specs.Laying.{AreParts}
-use Rattle.class_table.specs.Shown.{Shows, IsListed}
+use Rattle.class_table.specs.Shown.{Shows, AreMembersListed}
 use Rattle.class_table.specs.Kinds.{KnowsTypes}
 use Rattle.class_table.specs.declared.types.TypeKinds.{TypeKinds}
 use Rattle.class_table.specs.declared.tables.Body.{Body}
@@ -28,8 +28,8 @@ use Rattle.class_table.specs.declared.tables.TypeBody.{TypeBody}
 use Rattle.class_table.specs.declared.declaring.Declared.{Declared as Parts}
 use Rattle.class_table.specs.declared.tables.Classes.{Classes}
 use Rattle.class_table.specs.Listing.{CanList}
-use Rattle.class_table.specs.Ordering.{IsOrder}
-use Rattle.class_table.specs.Rows.{AreInside}
+use Rattle.class_table.specs.Ordering.{IsBodyOrder}
+use Rattle.class_table.specs.Rows.{AreInnerBodies}
 use Rattle.class_table.proofs.Acyclic.{is_complete}
 use Rattle.class_table.proofs.Listed.{classes_named}
 use Rattle.class_table.proofs.FirstPlaces.{earliest_same}
@@ -132,16 +132,16 @@ module _ (model : Model) (main : Option (List ℕ)) (d : Declared) where
 
   -- the answer of the last of them, where the members are listed
   pub answers4 : (bodies : List Body) (f : Option Place) (r : Result (Unit {0}) RuleFault) → r ≡ kept_rule 4 f
-      → AreKept (1 ∷ 2 ∷ 3 ∷ []) (BreaksTextRule model main d) → IsEarliest (BreaksNames d) f → IsListed d bodies
+      → AreKept (1 ∷ 2 ∷ 3 ∷ []) (BreaksTextRule model main d) → IsEarliest (BreaksNames d) f → AreMembersListed d bodies
       → Meets {X = Unit {0}} (Keeps (1 ∷ 2 ∷ 3 ∷ 4 ∷ []) (BreaksTextRule model main))
-      (λ (e : Declared) (u : Unit {0}). IsListed e bodies) d r
+      (λ (e : Declared) (u : Unit {0}). AreMembersListed e bodies) d r
   answers4 bodies f r e k h l =
       subst (λ (z : Result (Unit {0}) RuleFault). Meets {X = Unit {0}}
-      (Keeps (1 ∷ 2 ∷ 3 ∷ 4 ∷ []) (BreaksTextRule model main)) (λ (e : Declared) (u : Unit {0}). IsListed e bodies) d z)
+      (Keeps (1 ∷ 2 ∷ 3 ∷ 4 ∷ []) (BreaksTextRule model main)) (λ (e : Declared) (u : Unit {0}). AreMembersListed e bodies) d z)
       (sym e) (by f h)
     where
       by : (f : Option Place) → IsEarliest (BreaksNames d) f → Meets {X = Unit {0}}
-          (Keeps (1 ∷ 2 ∷ 3 ∷ 4 ∷ []) (BreaksTextRule model main)) (λ (e : Declared) (u : Unit {0}). IsListed e bodies) d
+          (Keeps (1 ∷ 2 ∷ 3 ∷ 4 ∷ []) (BreaksTextRule model main)) (λ (e : Declared) (u : Unit {0}). AreMembersListed e bodies) d
           (kept_rule 4 f)
       by None h = (d, kept (passes4 None tt k h refl), l)
       by (Some p) h = refuses4 (Some p) (Rule 4 p) k h refl
@@ -162,9 +162,9 @@ module _ (model : Model) (main : Option (List ℕ)) (d : Declared) where
       (kept_all rules e t, h)
 
   pub passed_all : (bodies : List Body) (e : Declared)
-      → Keeps (1 ∷ 2 ∷ 3 ∷ 4 ∷ []) (BreaksTextRule model main) d (Ok e) → IsListed e bodies
-      → AreKept (1 ∷ 2 ∷ 3 ∷ 4 ∷ []) (BreaksTextRule model main d) × IsListed d bodies
-  passed_all bodies e t l = passed (λ (f : Declared) (bs : List Body). IsListed f bs) (1 ∷ 2 ∷ 3 ∷ 4 ∷ []) e bodies t l
+      → Keeps (1 ∷ 2 ∷ 3 ∷ 4 ∷ []) (BreaksTextRule model main) d (Ok e) → AreMembersListed e bodies
+      → AreKept (1 ∷ 2 ∷ 3 ∷ 4 ∷ []) (BreaksTextRule model main d) × AreMembersListed d bodies
+  passed_all bodies e t l = passed (λ (f : Declared) (bs : List Body). AreMembersListed f bs) (1 ∷ 2 ∷ 3 ∷ 4 ∷ []) e bodies t l
 
   -- a refusal of earlier tests is one of later tests too
   later_answer : (rules : List ℕ) (n : ℕ) (a : Result Declared RuleFault) (x : RuleFault)
@@ -212,7 +212,7 @@ module _ (model : Model) (main : Option (List ℕ)) (d : Declared) where
 
   -- members can be listed in an order
   pub can_list : (rows : List (Vec ℕ Global)) (order : List ℕ) → IsDeclared model d
-      → AreKept (1 ∷ 2 ∷ 3 ∷ []) (BreaksTextRule model main d) → AreInside d rows → IsOrder rows order → CanList d order
+      → AreKept (1 ∷ 2 ∷ 3 ∷ []) (BreaksTextRule model main d) → AreInnerBodies d rows → IsBodyOrder rows order → CanList d order
   can_list rows order i k inside o = record {
     complete = is_complete i (λ p b. k.kept 3 p (one_rest 1 _ 3 (one_rest 2 _ 3 (one_first 3 []))) (l3 b)) rows order
         inside o;
@@ -261,7 +261,7 @@ module _ (model : Model) (p : Parts) (h : AreParts model.items.items p) where
 
   -- the table
   pub table_of : (main : Option (List ℕ)) (c : Classes) → c.names ≡ model.names → c.types.items ≡ p.types.items
-      → c.symbols.items ≡ p.symbols.items → IsListed (declared_of model.items.items p h) c.bodies.items
+      → c.symbols.items ≡ p.symbols.items → AreMembersListed (declared_of model.items.items p h) c.bodies.items
       → IsMain model.names (declared_of model.items.items p h) main c.main.n
       → IsTableOfModel model main (declared_of model.items.items p h) c
   unfolding declared_of

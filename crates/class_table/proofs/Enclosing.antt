@@ -13,7 +13,7 @@ use Rattle.class_table.specs.Declaring.{MemberForm, Declared}
 use Rattle.class_table.specs.Members.{class_named, own_at}
 use Rattle.class_table.specs.TablesInside.{IsBodyOf}
 use Rattle.class_table.specs.Rules.{NamesClass, extends, instances, HasInside, class, block, IsWithin, itself, further, BreaksContainment}
-use Rattle.class_table.specs.Shown.{inside, inside_form, inside_type, IsAgain, NamesAgain}
+use Rattle.class_table.specs.Shown.{put_inside, inside_form, inside_type, NamesRound, NamesAgain}
 use Rattle.class_table.specs.declared.tables.Body.{Body}
 use Rattle.class_table.specs.declared.tables.Owned.{Owned}
 use Rattle.class_table.specs.declared.tables.Owned.TheVariants.{Plain, Nested}
@@ -62,12 +62,12 @@ inside_names d (member.Assert i) c p e = cc
 
 -- what is inside a body stands in it
 pub inside_owned : (d : Declared) (a b : ℕ) → HasInside d a b
-    → (o : Owned) × (at : Option Place) × IsOneOf (own_at d a) o × (inside d o ≡ Some (b, at))
+    → (o : Owned) × (at : Option Place) × IsOneOf (own_at d a) o × (put_inside d o ≡ Some (b, at))
 inside_owned d a b (class {p = p} m s n) = (Plain m, Some p, s, names_inside d (out-Member m) b p n)
 inside_owned d a b (block x at id s) = (Nested x at id, None, s, refl)
 
 pub owned_inside : (d : Declared) (a b : ℕ) (o : Owned) (at : Option Place) → IsOneOf (own_at d a) o
-    → inside d o ≡ Some (b, at) → HasInside d a b
+    → put_inside d o ≡ Some (b, at) → HasInside d a b
 owned_inside d a b (Plain m) at s e = let h = inside_names d (out-Member m) b at e in class m s h.2
 owned_inside d a b (Nested x p id) at s e = let i : id.n ≡ b = ap (λ (z : ℕ × Option Place). z.0) (same_Some _ _ e) in subst (HasInside d a) i (block x p id s)
 
@@ -78,11 +78,11 @@ within_then d a b c (further e i w) h = further e i (within_then d e b c w h)
 
 -- what a loop over members finds
 pub again_to : (d : Declared) (body : ℕ) (own : List Owned) (k : ℕ) (o : Owned) (p : Place) → Stands own k o
-    → IsAgain d body o p → NamesAgain d body own p
+    → NamesRound d body o p → NamesAgain d body own p
 again_to d body own k o p s h = record { owned = o; is_own = one_here own k o s; is_again = h }
 
 pub again_back : (d : Declared) (body : ℕ) (own : List Owned) (p : Place) → NamesAgain d body own p
-    → (k : ℕ) × AtItem own (λ (k : ℕ) (o : Owned). IsAgain d body o) k p
+    → (k : ℕ) × AtItem own (λ (k : ℕ) (o : Owned). NamesRound d body o) k p
 again_back d body own p h = (h.is_own.place, record { item = h.owned; stands = h.is_own.stands; has = h.is_again })
 
 module _ (d : Declared) (bodies : List Body) (shown : Along IsBodyOf bodies d.bodies) where
@@ -91,7 +91,7 @@ module _ (d : Declared) (bodies : List Body) (shown : Along IsBodyOf bodies d.bo
       → BreaksContainment d p
   contained_to k b p s h = by h.owned h.is_own h.is_again
     where
-      by : (o : Owned) → IsOneOf b.own.items o → IsAgain d k o p → BreaksContainment d p
+      by : (o : Owned) → IsOneOf b.own.items o → NamesRound d k o p → BreaksContainment d p
       by (Plain m) i a =
           let n = inside_names d (out-Member m) a.class (Some p) a.names in
           let e : n.0 ≡ p = sym (same_Some _ _ n.1) in
@@ -126,26 +126,26 @@ module _ (d : Declared) (bodies : List Body) (shown : Along IsBodyOf bodies d.bo
       )
 
 -- a member that puts no class inside, at a place
-pub again_none : (d : Declared) (body : ℕ) (o : Owned) → ((c : ℕ) (p : Place) → inside d o ≡ Some (c, Some p) → ⊥)
-    → IsEarliest (IsAgain d body o) None
+pub again_none : (d : Declared) (body : ℕ) (o : Owned) → ((c : ℕ) (p : Place) → put_inside d o ≡ Some (c, Some p) → ⊥)
+    → IsEarliest (NamesRound d body o) None
 again_none d body o n = nowhere (λ p h. n h.class p h.names)
 
 -- a member that puts nothing inside, or a block, names no class
-pub again_no_body : (d : Declared) (body : ℕ) (o : Owned) → None ≡ inside d o → IsEarliest (IsAgain d body o) None
+pub again_no_body : (d : Declared) (body : ℕ) (o : Owned) → None ≡ put_inside d o → IsEarliest (NamesRound d body o) None
 again_no_body d body o e = again_none d body o (λ c p f. let g = e ∙ f in cc)
 
 pub again_no_name : (d : Declared) (body : ℕ) (o : Owned) (c : ℕ) (at : Option Place) → at ≡ None
-    → Some (c, at) ≡ inside d o → IsEarliest (IsAgain d body o) None
+    → Some (c, at) ≡ put_inside d o → IsEarliest (NamesRound d body o) None
 again_no_name d body o c at e f = again_none d body o (λ k p g. let h = same_Some _ _ (f ∙ g) in let i = ap (λ (z : ℕ × Option Place). z.1) h in cc)
 
-pub again_there : (d : Declared) (body : ℕ) (o : Owned) (c : ℕ) (at : Place) → inside d o ≡ Some (c, Some at)
-    → IsWithin d c body → IsEarliest (IsAgain d body o) (Some at)
+pub again_there : (d : Declared) (body : ℕ) (o : Owned) (c : ℕ) (at : Place) → put_inside d o ≡ Some (c, Some at)
+    → IsWithin d c body → IsEarliest (NamesRound d body o) (Some at)
 again_there d body o c at e w = there (record { class = c; names = e; again = w })
     (λ q b h. not_before q at b (same q h))
   where
-    same : (q : Place) → IsAgain d body o q → q ≡ at
+    same : (q : Place) → NamesRound d body o q → q ≡ at
     same q h = let g = same_Some _ _ (sym h.names ∙ e) in same_Some _ _ (ap (λ (z : ℕ × Option Place). z.1) g)
 
-pub again_not : (d : Declared) (body : ℕ) (o : Owned) (c : ℕ) (at : Place) → inside d o ≡ Some (c, Some at)
-    → (IsWithin d c body → ⊥) → IsEarliest (IsAgain d body o) None
+pub again_not : (d : Declared) (body : ℕ) (o : Owned) (c : ℕ) (at : Place) → put_inside d o ≡ Some (c, Some at)
+    → (IsWithin d c body → ⊥) → IsEarliest (NamesRound d body o) None
 again_not d body o c at e n = nowhere (λ p h. let g = ap (λ (z : ℕ × Option Place). z.0) (same_Some _ _ (sym h.names ∙ e)) in n (subst (λ (x : ℕ). IsWithin d x body) g h.again))

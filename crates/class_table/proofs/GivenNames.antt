@@ -16,7 +16,7 @@ use Rattle.class_table.specs.Members.{Site, Members, own_at, sites_from, names_o
 use Rattle.class_table.specs.TablesInside.{site_of, IsBodyOf}
 use Rattle.class_table.specs.Earliest.{IsEarliest, nowhere, there, IsEarlierOf}
 use Rattle.class_table.specs.Repeating.{IsNamed}
-use Rattle.class_table.specs.Retested.{names_of_site, names_at, IsTaken, same_given, GivesAt, MayGive, giver_of, IsKnownAt, AddsGivenName, AddsGiven, KnowsGiven}
+use Rattle.class_table.specs.Retested.{names_of_site, member_names_at, IsNameTaken, same_given, GivesAt, MayGive, giver_of, IsKnownAt, AddsGivenName, AddsGiven, KnowsGiven}
 use Rattle.class_table.specs.Shown.{member_place}
 use Rattle.class_table.specs.declared.given.Given.{Given}
 use Rattle.class_table.specs.declared.given.Giver.{Giver}
@@ -256,15 +256,15 @@ named_two xs ys x n = elim (stands_split xs ys n.k n.one n.stands) [
 
 module _ (d : Declared) where
   -- one more site
-  pub named_more : (xs : List Site) (s : Site) (x : ℕ) → IsNamed (names_at d (xs ++ s ∷ [])) x
-      → IsNamed (names_at d xs) x ⊎ IsNamed (names_of_site d s) x
+  pub named_more : (xs : List Site) (s : Site) (x : ℕ) → IsNamed (member_names_at d (xs ++ s ∷ [])) x
+      → IsNamed (member_names_at d xs) x ⊎ IsNamed (names_of_site d s) x
   named_more xs s x n =
-      named_two (names_at d xs) (names_of_site d s) x
+      named_two (member_names_at d xs) (names_of_site d s) x
       (subst (λ (ns : List (ℕ × Place)). IsNamed ns x) (named_next d xs s) n)
 
   -- a name that the member at one of the sites gives
   pub named_within : (xs : List Site) (i : ℕ) (s : Site) (x : ℕ) → Stands xs i s → IsNamed (names_of_site d s) x
-      → IsNamed (names_at d xs) x
+      → IsNamed (member_names_at d xs) x
   named_within [] i s x h n = absurd (stands_none i s h)
   named_within (y ∷ ys) zero s x h n =
       let e : y ≡ s = same_Some _ _ h in
@@ -272,7 +272,7 @@ module _ (d : Declared) where
       (named_left _ _ x (subst (λ (ns : List (ℕ × Place)). IsNamed ns x) (sym (names_single y) ∙ refl)
       (subst (λ (z : Site). IsNamed (names_of_site d z) x) (sym e) n)))
     where
-      names_single : (z : Site) → names_at d (z ∷ []) ≡ names_of_site d z
+      names_single : (z : Site) → member_names_at d (z ∷ []) ≡ names_of_site d z
       names_single z = ap (map member_place) (append-nil (names_of d z (owned_at d z)))
   named_within (y ∷ ys) (suc i) s x h n =
       subst (λ (ns : List (ℕ × Place)). IsNamed ns x) (sym (names_join d (y ∷ []) ys))
@@ -280,12 +280,12 @@ module _ (d : Declared) where
 
 -- The earliest name that is taken
 
-pub taken_none : (earlier : List (ℕ × Place)) → IsEarliest (IsTaken earlier []) None
+pub taken_none : (earlier : List (ℕ × Place)) → IsEarliest (IsNameTaken earlier []) None
 taken_none earlier = nowhere (λ p t. stands_none t.k t.one t.stands)
 
 module _ (earlier names : List (ℕ × Place)) (x : ℕ) (at : Place) where
-  taken_split : (p : Place) → IsTaken earlier (names ++ (x, at) ∷ []) p
-      → IsTaken earlier names p ⊎ (IsNamed earlier x × (p ≡ at))
+  taken_split : (p : Place) → IsNameTaken earlier (names ++ (x, at) ∷ []) p
+      → IsNameTaken earlier names p ⊎ (IsNamed earlier x × (p ≡ at))
   taken_split p t = elim (stands_split names ((x, at) ∷ []) t.k t.one t.stands) [
     | inl a ↦ inl (record { k = t.k; one = t.one; stands = a; named = t.named; place = t.place })
     | inr a ↦
@@ -296,7 +296,7 @@ module _ (earlier names : List (ℕ × Place)) (x : ℕ) (at : Place) where
         )
   ]
 
-  taken_before : (p : Place) → IsTaken earlier names p → IsTaken earlier (names ++ (x, at) ∷ []) p
+  taken_before : (p : Place) → IsNameTaken earlier names p → IsNameTaken earlier (names ++ (x, at) ∷ []) p
   taken_before p t = record {
     k = t.k;
     one = t.one;
@@ -305,22 +305,22 @@ module _ (earlier names : List (ℕ × Place)) (x : ℕ) (at : Place) where
     place = t.place;
   }
 
-  pub taken_same : (f : Option Place) → (IsNamed earlier x → ⊥) → IsEarliest (IsTaken earlier names) f
-      → IsEarliest (IsTaken earlier (names ++ (x, at) ∷ [])) f
+  pub taken_same : (f : Option Place) → (IsNamed earlier x → ⊥) → IsEarliest (IsNameTaken earlier names) f
+      → IsEarliest (IsNameTaken earlier (names ++ (x, at) ∷ [])) f
   taken_same f n h = earliest_same f taken_before back h
     where
-      back : (p : Place) → IsTaken earlier (names ++ (x, at) ∷ []) p → IsTaken earlier names p
+      back : (p : Place) → IsNameTaken earlier (names ++ (x, at) ∷ []) p → IsNameTaken earlier names p
       back p t = elim (taken_split p t) [ inl a ↦ a | inr a ↦ absurd (n a.0) ]
 
   pub taken_more : (f r : Option Place) → IsNamed earlier x → IsEarlierOf f (Some at) r
-      → IsEarliest (IsTaken earlier names) f → IsEarliest (IsTaken earlier (names ++ (x, at) ∷ [])) r
+      → IsEarliest (IsNameTaken earlier names) f → IsEarliest (IsNameTaken earlier (names ++ (x, at) ∷ [])) r
   taken_more f r n e h = earliest_same r to taken_split (earliest_both f (Some at) r h last e)
     where
       last : IsEarliest (λ (p : Place). IsNamed earlier x × (p ≡ at)) (Some at)
       last = there (n, refl) (λ q b i. not_before q at b i.1)
 
-      to : (p : Place) → IsTaken earlier names p ⊎ (IsNamed earlier x × (p ≡ at))
-          → IsTaken earlier (names ++ (x, at) ∷ []) p
+      to : (p : Place) → IsNameTaken earlier names p ⊎ (IsNamed earlier x × (p ≡ at))
+          → IsNameTaken earlier (names ++ (x, at) ∷ []) p
       to p (inl t) = taken_before p t
       to p (inr t) = record {
         k = length names;

@@ -9,7 +9,7 @@ use Rattle.class_table.specs.Members.{Site, extended, class_named, sites_from, M
 use Rattle.class_table.specs.TablesInside.{IsBodyOf, site_of}
 use Rattle.class_table.specs.Rules.{BreaksNames}
 use Rattle.class_table.specs.Repeating.{IsRepeated}
-use Rattle.class_table.specs.Shown.{IsListed, member_place}
+use Rattle.class_table.specs.Shown.{AreMembersListed, member_place}
 use Rattle.class_table.specs.Listing.{AddsClass, InheritsMore}
 use Rattle.class_table.specs.declared.tables.Body.{Body}
 use Rattle.class_table.specs.declared.tables.Owned.{Owned}
@@ -64,7 +64,7 @@ module _ (d : Declared) where
     inherits_one os xs ys (passes g s) (passes h t) = inherits_one _ xs ys s t
 
   -- what a loop over bodies finds
-  pub named_to : (bodies : List Body) → IsListed d bodies → (k : ℕ) (b : Body) (p : Place) → Stands bodies k b
+  pub named_to : (bodies : List Body) → AreMembersListed d bodies → (k : ℕ) (b : Body) (p : Place) → Stands bodies k b
       → IsRepeated (map member_place (named_at d (map site_of b.all.items))) p → BreaksNames d p
   named_to bodies l k b p s r =
       let ms = named_at d (map site_of b.all.items) in
@@ -88,7 +88,7 @@ module _ (d : Declared) where
   pub body_of : (b : ℕ) (xs : List Site) → Members d b xs → (t : TextBody) × Stands d.bodies b t
   body_of b xs (members body s i) = (body, s)
 
-  pub named_back : (bodies : List Body) → IsListed d bodies → (p : Place) → BreaksNames d p
+  pub named_back : (bodies : List Body) → AreMembersListed d bodies → (p : Place) → BreaksNames d p
       → (k : ℕ) × AtItem bodies (λ (k : ℕ) (b : Body). IsRepeated
       (map member_place (named_at d (map site_of b.all.items)))) k p
   named_back bodies l p h =

@@ -14,9 +14,9 @@ use Rattle.class_table.specs.Members.{Members, own_at, extended, name_extended, 
 use Rattle.class_table.specs.Rules.{NamesClass, HasInside, class as inside_class, Misnames, BreaksTypes}
 use Rattle.class_table.specs.Rules.NamesClass.{extends}
 use Rattle.class_table.specs.Rules.Misnames.{extends as misnames_extends}
-use Rattle.class_table.specs.Shown.{IsListed}
+use Rattle.class_table.specs.Shown.{AreMembersListed}
 use Rattle.class_table.specs.TablesInside.{IsBodyOf, site_of}
-use Rattle.class_table.specs.Listing.{AreListed, IsDone, AreDone, CanList}
+use Rattle.class_table.specs.Listing.{HaveMembersListed, IsDone, AreDone, CanList}
 use Rattle.class_table.specs.declared.tables.Body.{Body}
 use Rattle.class_table.specs.declared.tables.Owned.{Owned}
 use Rattle.class_table.specs.declared.tables.Owned.TheVariants.{Plain, Nested}
@@ -49,9 +49,9 @@ along_set xs ys (one_and {xs = us} {ys = vs} r h) (suc i) v f = one_and r (along
 
 -- one body more has its members listed
 pub keeps_listed : (d : Declared) (bodies : List Body) (done : List ℕ) (b : ℕ) (v : Body)
-    (all : Vec (BodyId × ℕ) Global) → b < length bodies → AreListed d bodies done
+    (all : Vec (BodyId × ℕ) Global) → b < length bodies → HaveMembersListed d bodies done
     → Members d b (map site_of all.items)
-    → AreListed d (set bodies b (record (get_or bodies b v) { all = all })) (done ++ b ∷ [])
+    → HaveMembersListed d (set bodies b (record (get_or bodies b v) { all = all })) (done ++ b ∷ [])
 keeps_listed d bodies done b v all l h m = record {
   as_text = along_set bodies d.bodies h.as_text b new is_new;
   there = λ k o. let e = length_set bodies b new in elim (one_split done (b ∷ []) k o) [
@@ -82,7 +82,7 @@ keeps_listed d bodies done b v all l h m = record {
     ]
 
 -- before the first body none is listed
-pub none_listed : (d : Declared) (bodies : List Body) → Along IsBodyOf bodies d.bodies → AreListed d bodies []
+pub none_listed : (d : Declared) (bodies : List Body) → Along IsBodyOf bodies d.bodies → HaveMembersListed d bodies []
 none_listed d bodies shown = record {
   as_text = shown;
   there = λ b o. absurd (one_none b o);
@@ -158,8 +158,8 @@ next_done d order can i b s = record { each = done }
         }
 
 -- where the order is through, all is listed
-pub all_listed : (d : Declared) (bodies : List Body) (order : List ℕ) → CanList d order → AreListed d bodies order
-    → IsListed d bodies
+pub all_listed : (d : Declared) (bodies : List Body) (order : List ℕ) → CanList d order → HaveMembersListed d bodies order
+    → AreMembersListed d bodies
 all_listed d bodies order can h = record {
   as_text = h.as_text;
   members = λ b body s.

@@ -13,7 +13,7 @@ use Rattle.ar_syntax.specs.declared.items.DomainBody.TheVariants as body
 use Rattle.class_table.specs.Declaring.{FirstUses, none, known, first, NamedType, DomainType}
 use Rattle.class_table.specs.Tables.{IsDomainOf, symbols, range}
 use Rattle.class_table.specs.TablesInside.{IsTypeOf, domain, class, IsNamedType}
-use Rattle.class_table.specs.Symbols.{AreNumbered, UsesMore, list_of}
+use Rattle.class_table.specs.Symbols.{AreNumberedSymbols, UsesMore, names_of_symbols}
 use Rattle.class_table.specs.declared.symbols.Symbols.{Symbols}
 use Rattle.class_table.specs.declared.tables.TypeBody.{TypeBody}
 use Rattle.std.proofs.Common.{Vec, ℤ}
@@ -39,48 +39,48 @@ uses_stand old new xs (first {xs = zs} {x = y} o h) k x s =
     uses_stand (old ++ y ∷ []) new zs h k x (stands_left old (y ∷ []) k x s)
 
 -- a symbol that was there
-pub number_known : (s : Symbols) (x k : ℕ) → hash.get nat_eq s.numbers x ≡ Some k → AreNumbered s
-    → UsesMore (x ∷ []) s s × Stands (list_of s) k x
+pub number_known : (s : Symbols) (x k : ℕ) → hash.get nat_eq s.numbers x ≡ Some k → AreNumberedSymbols s
+    → UsesMore (x ∷ []) s s × Stands (names_of_symbols s) k x
 number_known s x k e h = (
-  record { numbered = h; uses_of = known (one_here (list_of s) k x (h.at x k e)) none },
+  record { numbered = h; uses_of = known (one_here (names_of_symbols s) k x (h.at x k e)) none },
   h.at x
       k e,
 )
 
 -- a symbol that has no number is none of those that have one
-lacks_new : (s : Symbols) (x : ℕ) → hash.get nat_eq s.numbers x ≡ None → AreNumbered s
-    → HasNo (list_of s) (λ y. y ≡ x)
+lacks_new : (s : Symbols) (x : ℕ) → hash.get nat_eq s.numbers x ≡ None → AreNumberedSymbols s
+    → HasNo (names_of_symbols s) (λ y. y ≡ x)
 lacks_new s x e h =
-    record { has_not = λ n y t i. h.all x e (subst (IsOneOf (list_of s)) i (one_here (list_of s) n y t)) }
+    record { has_not = λ n y t i. h.all x e (subst (IsOneOf (names_of_symbols s)) i (one_here (names_of_symbols s) n y t)) }
 
 -- where a symbol has no number, there is room for one
-pub room_new : (s : Symbols) (x : ℕ) → hash.get nat_eq s.numbers x ≡ None → x < 2 ^ 32 → AreNumbered s
-    → length (list_of s) < 2 ^ 32
+pub room_new : (s : Symbols) (x : ℕ) → hash.get nat_eq s.numbers x ≡ None → x < 2 ^ 32 → AreNumberedSymbols s
+    → length (names_of_symbols s) < 2 ^ 32
 room_new s x e w h =
-    let l = few_below (2 ^ 32) (list_of s ++ x ∷ [])
-    (different_more (list_of s) x h.different (lacks_new s x e h)) small in
-    let m = length-append (list_of s) (x ∷ []) in
+    let l = few_below (2 ^ 32) (names_of_symbols s ++ x ∷ [])
+    (different_more (names_of_symbols s) x h.different (lacks_new s x e h)) small in
+    let m = length-append (names_of_symbols s) (x ∷ []) in
     omega (arith, l, m)
   where
-    small : (y : ℕ) → IsOneOf (list_of s ++ x ∷ []) y → y < 2 ^ 32
-    small y o = elim (one_split (list_of s) (x ∷ []) y o) [
+    small : (y : ℕ) → IsOneOf (names_of_symbols s ++ x ∷ []) y → y < 2 ^ 32
+    small y o = elim (one_split (names_of_symbols s) (x ∷ []) y o) [
       | inl p ↦ h.small y p
       | inr p ↦ subst (λ (z : ℕ). z < 2 ^ 32) (only_item x y p) w
     ]
 
 -- a new symbol
-pub number_new : (old new : Symbols) (x k : ℕ) → hash.get nat_eq old.numbers x ≡ None → k ≡ length (list_of old)
-    → list_of new ≡ list_of old ++ x ∷ []
+pub number_new : (old new : Symbols) (x k : ℕ) → hash.get nat_eq old.numbers x ≡ None → k ≡ length (names_of_symbols old)
+    → names_of_symbols new ≡ names_of_symbols old ++ x ∷ []
     → ((q : ℕ) → hash.get nat_eq new.numbers q ≡ cond (nat_eq x q) (Some k) (hash.get nat_eq old.numbers q))
-    → x < 2 ^ 32 → AreNumbered old → UsesMore (x ∷ []) old new × Stands (list_of new) k x
+    → x < 2 ^ 32 → AreNumberedSymbols old → UsesMore (x ∷ []) old new × Stands (names_of_symbols new) k x
 number_new old new x k e l j u w h = (
   record { numbered = record { at = at; all = all; different = different; small = small }; uses_of = uses },
   here,
 )
   where
-    here : Stands (list_of new) k x
+    here : Stands (names_of_symbols new) k x
     here = subst (λ (xs : List ℕ). Stands xs k x) (sym j)
-        (subst (λ (n : ℕ). Stands (list_of old ++ x ∷ []) n x) (sym l) (stands_next (list_of old) x []))
+        (subst (λ (n : ℕ). Stands (names_of_symbols old ++ x ∷ []) n x) (sym l) (stands_next (names_of_symbols old) x []))
 
     is_new : (y : ℕ) → x ≡ y → hash.get nat_eq new.numbers y ≡ Some k
     is_new y i = u y ∙ ap (λ (b : Bool). cond b (Some k) (hash.get nat_eq old.numbers y)) (eq-eqb x y i)
@@ -88,62 +88,62 @@ number_new old new x k e l j u w h = (
     is_old : (y : ℕ) → (x ≡ y → ⊥) → hash.get nat_eq new.numbers y ≡ hash.get nat_eq old.numbers y
     is_old y n = u y ∙ ap (λ (b : Bool). cond b (Some k) (hash.get nat_eq old.numbers y)) (ne_eqb x y n)
 
-    at : (y n : ℕ) → hash.get nat_eq new.numbers y ≡ Some n → Stands (list_of new) n y
+    at : (y n : ℕ) → hash.get nat_eq new.numbers y ≡ Some n → Stands (names_of_symbols new) n y
     at y n f = by (cases_eq x y)
       where
-        by : (x ≡ y) ⊎ (x ≡ y → ⊥) → Stands (list_of new) n y
-        by (inl i) = let g = is_new y i in let m : k ≡ n = cc in subst (λ (z : ℕ). Stands (list_of new) n z) i (subst (λ (z : ℕ). Stands (list_of new) z x) m here)
+        by : (x ≡ y) ⊎ (x ≡ y → ⊥) → Stands (names_of_symbols new) n y
+        by (inl i) = let g = is_new y i in let m : k ≡ n = cc in subst (λ (z : ℕ). Stands (names_of_symbols new) n z) i (subst (λ (z : ℕ). Stands (names_of_symbols new) z x) m here)
         by (inr i) = subst (λ (xs : List ℕ). Stands xs n y) (sym j)
-            (stands_left (list_of old) (x ∷ []) n y (h.at y n (sym (is_old y i) ∙ f)))
+            (stands_left (names_of_symbols old) (x ∷ []) n y (h.at y n (sym (is_old y i) ∙ f)))
 
-    all : (y : ℕ) → hash.get nat_eq new.numbers y ≡ None → IsOneOf (list_of new) y → ⊥
-    all y f o = by (cases_eq x y) (one_split (list_of old) (x ∷ []) y (subst (λ (xs : List ℕ). IsOneOf xs y) j o))
+    all : (y : ℕ) → hash.get nat_eq new.numbers y ≡ None → IsOneOf (names_of_symbols new) y → ⊥
+    all y f o = by (cases_eq x y) (one_split (names_of_symbols old) (x ∷ []) y (subst (λ (xs : List ℕ). IsOneOf xs y) j o))
       where
-        by : (x ≡ y) ⊎ (x ≡ y → ⊥) → IsOneOf (list_of old) y ⊎ IsOneOf (x ∷ []) y → ⊥
+        by : (x ≡ y) ⊎ (x ≡ y → ⊥) → IsOneOf (names_of_symbols old) y ⊎ IsOneOf (x ∷ []) y → ⊥
         by (inl i) o = let g = is_new y i in cc
         by (inr i) (inl p) = h.all y (sym (is_old y i) ∙ f) p
         by (inr i) (inr p) = elim (one_cases x [] y p) [ inl q ↦ i q | inr q ↦ one_none y q ]
 
-    lacks : HasNo (list_of old) (λ y. y ≡ x)
+    lacks : HasNo (names_of_symbols old) (λ y. y ≡ x)
     lacks = lacks_new old x e h
 
-    different : AreDifferent (list_of new)
-    different = subst AreDifferent (sym j) (different_more (list_of old) x h.different lacks)
+    different : AreDifferent (names_of_symbols new)
+    different = subst AreDifferent (sym j) (different_more (names_of_symbols old) x h.different lacks)
 
-    small : (y : ℕ) → IsOneOf (list_of new) y → y < 2 ^ 32
-    small y o = by (one_split (list_of old) (x ∷ []) y (subst (λ (xs : List ℕ). IsOneOf xs y) j o))
+    small : (y : ℕ) → IsOneOf (names_of_symbols new) y → y < 2 ^ 32
+    small y o = by (one_split (names_of_symbols old) (x ∷ []) y (subst (λ (xs : List ℕ). IsOneOf xs y) j o))
       where
-        by : IsOneOf (list_of old) y ⊎ IsOneOf (x ∷ []) y → y < 2 ^ 32
+        by : IsOneOf (names_of_symbols old) y ⊎ IsOneOf (x ∷ []) y → y < 2 ^ 32
         by (inl p) = h.small y p
         by (inr p) = subst (λ (z : ℕ). z < 2 ^ 32) (only_item x y p) w
 
-    uses : FirstUses (list_of old) (x ∷ []) (list_of new)
+    uses : FirstUses (names_of_symbols old) (x ∷ []) (names_of_symbols new)
     uses = first lacks
-        (subst (λ (xs : List ℕ). FirstUses (list_of old ++ x ∷ []) [] xs) (sym j) none)
+        (subst (λ (xs : List ℕ). FirstUses (names_of_symbols old ++ x ∷ []) [] xs) (sym j) none)
 
 -- the numbers of the symbols of a declaration so far
 pub numbers_next : (a b c : Symbols) (xs : List ℕ) (ns : List (NameId × Place)) (ks ks' : List ℕ) (n : NameId × Place)
     (k : ℕ) → ks' ≡ ks ++ k ∷ []
-    → UsesMore xs a b × Along (λ (m : NameId × Place) (i : ℕ). Stands (list_of b) i m.0.n) ns ks
-    → UsesMore (n.0.n ∷ []) b c × Stands (list_of c) k n.0.n
-    → UsesMore (xs ++ n.0.n ∷ []) a c × Along (λ (m : NameId × Place) (i : ℕ). Stands (list_of c) i m.0.n)
+    → UsesMore xs a b × Along (λ (m : NameId × Place) (i : ℕ). Stands (names_of_symbols b) i m.0.n) ns ks
+    → UsesMore (n.0.n ∷ []) b c × Stands (names_of_symbols c) k n.0.n
+    → UsesMore (xs ++ n.0.n ∷ []) a c × Along (λ (m : NameId × Place) (i : ℕ). Stands (names_of_symbols c) i m.0.n)
     (ns ++ n ∷ []) ks'
 numbers_next a b c xs ns ks ks' n k e h g = (
   record {
     numbered = g.0.numbered;
-    uses_of = uses_append (list_of a) (list_of b) (list_of c) xs (n.0.n ∷ [])
+    uses_of = uses_append (names_of_symbols a) (names_of_symbols b) (names_of_symbols c) xs (n.0.n ∷ [])
         h.0.uses_of g.0.uses_of;
   },
-  subst (Along (λ (m : NameId × Place) (i : ℕ). Stands (list_of c) i m.0.n) (ns ++ n ∷ [])) (sym e)
+  subst (Along (λ (m : NameId × Place) (i : ℕ). Stands (names_of_symbols c) i m.0.n) (ns ++ n ∷ [])) (sym e)
       (along_append ns ks (n ∷ []) (k ∷ []) (later ns ks h.1) (along_and g.1 along_none)),
 )
   where
     later : (ms : List (NameId × Place)) (is : List ℕ)
-        → Along (λ (m : NameId × Place) (i : ℕ). Stands (list_of b) i m.0.n) ms is
-        → Along (λ (m : NameId × Place) (i : ℕ). Stands (list_of c) i m.0.n) ms is
+        → Along (λ (m : NameId × Place) (i : ℕ). Stands (names_of_symbols b) i m.0.n) ms is
+        → Along (λ (m : NameId × Place) (i : ℕ). Stands (names_of_symbols c) i m.0.n) ms is
     later ms is along_none = along_none
     later ms is (along_and {a = m} {b = i} {xs = ns} {ys = js} s t) =
-        along_and (uses_stand (list_of b) (list_of c) (n.0.n ∷ []) g.0.uses_of i m.0.n s) (later ns js t)
+        along_and (uses_stand (names_of_symbols b) (names_of_symbols c) (n.0.n ∷ []) g.0.uses_of i m.0.n s) (later ns js t)
 
 -- a type keeps the numbers of its symbols
 pub types_later : (old new xs : List ℕ) → FirstUses old xs new
@@ -168,28 +168,28 @@ types_later old new xs u ts ds (along_and {a = t} {b = d} {xs = us} {ys = es} h 
     one t d (domain {declared = b} {v = v} k) = domain (values b v k)
     one t d (class e) = class e
 
-pub numbers_start : (s : Symbols) (ks : List ℕ) → ks ≡ [] → AreNumbered s
-    → UsesMore [] s s × Along (λ (m : NameId × Place) (i : ℕ). Stands (list_of s) i m.0.n) [] ks
+pub numbers_start : (s : Symbols) (ks : List ℕ) → ks ≡ [] → AreNumberedSymbols s
+    → UsesMore [] s s × Along (λ (m : NameId × Place) (i : ℕ). Stands (names_of_symbols s) i m.0.n) [] ks
 numbers_start s ks e h = (
   record { numbered = h; uses_of = none },
   subst
-      (Along (λ (m : NameId × Place) (i : ℕ). Stands (list_of s) i m.0.n) []) (sym e) along_none,
+      (Along (λ (m : NameId × Place) (i : ℕ). Stands (names_of_symbols s) i m.0.n) []) (sym e) along_none,
 )
 
 -- the type of a declaration
 pub domain_symbols : (s t : Symbols) (b : DomainBody) (names : Vec (NameId × Place) Global) (numbers : Vec ℕ Global)
     → b ≡ body.Symbols names
     → UsesMore (map (λ (n : NameId × Place). n.0.n) names.items) s t
-    × Along (λ (m : NameId × Place) (i : ℕ). Stands (list_of t) i m.0.n) names.items numbers.items
-    → UsesMore (symbols_in b) s t × IsTypeOf (list_of t) (DomainType b) (types.Domain (values.Symbols numbers))
+    × Along (λ (m : NameId × Place) (i : ℕ). Stands (names_of_symbols t) i m.0.n) names.items numbers.items
+    → UsesMore (symbols_in b) s t × IsTypeOf (names_of_symbols t) (DomainType b) (types.Domain (values.Symbols numbers))
 domain_symbols s t b names numbers e h =
     subst (λ (z : DomainBody). UsesMore (symbols_in z) s t
-    × IsTypeOf (list_of t) (DomainType z) (types.Domain (values.Symbols numbers))) (sym e)
+    × IsTypeOf (names_of_symbols t) (DomainType z) (types.Domain (values.Symbols numbers))) (sym e)
     (h.0, domain (symbols h.1))
 
-pub domain_range : (s : Symbols) (b : DomainBody) (low high : ℤ) → b ≡ body.Range low high → AreNumbered s
-    → UsesMore (symbols_in b) s s × IsTypeOf (list_of s) (DomainType b) (types.Domain (values.Range low high))
+pub domain_range : (s : Symbols) (b : DomainBody) (low high : ℤ) → b ≡ body.Range low high → AreNumberedSymbols s
+    → UsesMore (symbols_in b) s s × IsTypeOf (names_of_symbols s) (DomainType b) (types.Domain (values.Range low high))
 domain_range s b low high e h =
     subst (λ (z : DomainBody). UsesMore (symbols_in z) s s
-    × IsTypeOf (list_of s) (DomainType z) (types.Domain (values.Range low high))) (sym e)
+    × IsTypeOf (names_of_symbols s) (DomainType z) (types.Domain (values.Range low high))) (sym e)
     (record { numbered = h; uses_of = none }, domain range)

@@ -5,9 +5,9 @@ use Rattle.std.proofs.lemmas.List.{length-set}
 use Rattle.std.specs.Vec.{with_item}
 use Rattle.ar_base.specs.Lists.{Stands, IsOneOf}
 use Rattle.ar_base.proofs.Standing.{stands_none, stands_one, stands_get, stands_left, stands_split, stands_within, one_here, one_left, one_right, one_split, one_first, one_rest, one_cases, one_none, only_item}
-use Rattle.class_table.specs.Searching.{marked, IsSeen, OpensOne}
+use Rattle.class_table.specs.Searching.{count_of_marked, IsSeen, OpensOne}
 use Rattle.class_table.specs.Rows.{IsInRow}
-use Rattle.class_table.specs.Ordering.{IsAfter, IsOrder, WaitsFor, IsSorting}
+use Rattle.class_table.specs.Ordering.{IsAfter, IsBodyOrder, WaitsFor, IsSorting}
 use Rattle.class_table.specs.declared.order.Sorting.{Sorting}
 use Rattle.class_table.proofs.Taken.{set_there, set_kept}
 use Rattle.class_table.proofs.Listed.{stands_set_same, stands_set_other}
@@ -268,7 +268,7 @@ released rows s t next body v d h at same_rows same_placed same_order written no
     ]
 
 -- all are marked
-pub all_marked : (seen : List Bool) → length seen ≤ marked seen → (k : ℕ) → k < length seen → Stands seen k true
+pub all_marked : (seen : List Bool) → length seen ≤ count_of_marked seen → (k : ℕ) → k < length seen → Stands seen k true
 all_marked [] l k m = absurd (omega (arith, m))
 all_marked (true ∷ xs) l zero m = refl
 all_marked (true ∷ xs) l (suc k) m = all_marked xs (omega (arith, l)) k (omega (arith, m))
@@ -276,7 +276,7 @@ all_marked (false ∷ xs) l k m = let n = marked-le-length xs in absurd (omega (
 
 -- where all of the order was taken, the sorting is done
 pub sorted : (rows : List Row) (s : Sorting) (next : ℕ) → length s.order.items ≤ next → IsSorting rows s next []
-    → IsOrder rows s.order.items
+    → IsBodyOrder rows s.order.items
 sorted rows s next l h = record {
   within = λ a o. let m = stands_within s.placed.items a true (h.is_seen.has_seen a o) in omega (arith, m, h.long_placed);
   after = h.after;

@@ -12,7 +12,7 @@ use Rattle.class_table.specs.Declaring.{TextBody, NamedType, DomainType, ClassTy
 use Rattle.class_table.specs.Declaring.Lays_items.{none, domain, class, block}
 use Rattle.class_table.specs.TablesInside.{IsBodyOf, IsTypeOf, IsNamedType}
 use Rattle.class_table.specs.TablesInside.IsTypeOf.{class as class_type}
-use Rattle.class_table.specs.Symbols.{AreNumbered, UsesMore, list_of}
+use Rattle.class_table.specs.Symbols.{AreNumberedSymbols, UsesMore, names_of_symbols}
 use Rattle.class_table.specs.Laying.{LaysUnit, AreParts}
 use Rattle.class_table.specs.declared.symbols.Symbols.{Symbols}
 use Rattle.class_table.specs.declared.declaring.Declared.{Declared as Parts}
@@ -57,18 +57,18 @@ pub record PartsSoFar (items : List Item) (bodies : List Body) (kinds : List (Na
   pub texts : List TextBody
   pub named : List (ℕ × NamedType)
   pub as_text : Along IsBodyOf bodies texts
-  pub as_types : Along (IsNamedType (list_of symbols)) kinds named
-  pub uses : FirstUses [] (flat_map symbols_of items) (list_of symbols)
+  pub as_types : Along (IsNamedType (names_of_symbols symbols)) kinds named
+  pub uses : FirstUses [] (flat_map symbols_of items) (names_of_symbols symbols)
   pub lays : Lays_items 0 items texts named (map (λ (b : BodyId). b.n) blocks)
-  pub numbered : AreNumbered symbols
+  pub numbered : AreNumberedSymbols symbols
 
 pub parts_start : (bodies : List Body) (kinds : List (NameId × TypeBody)) (s : Symbols) (blocks : List BodyId)
-    → bodies ≡ [] → kinds ≡ [] → list_of s ≡ [] → blocks ≡ [] → AreNumbered s → PartsSoFar [] bodies kinds s blocks
+    → bodies ≡ [] → kinds ≡ [] → names_of_symbols s ≡ [] → blocks ≡ [] → AreNumberedSymbols s → PartsSoFar [] bodies kinds s blocks
 parts_start bodies kinds s blocks e f g h n = record {
   texts = [];
   named = [];
   as_text = subst (λ (xs : List Body). Along IsBodyOf xs []) (sym e) along_none;
-  as_types = subst (λ (xs : List (NameId × TypeBody)). Along (IsNamedType (list_of s)) xs []) (sym f) along_none;
+  as_types = subst (λ (xs : List (NameId × TypeBody)). Along (IsNamedType (names_of_symbols s)) xs []) (sym f) along_none;
   uses = subst (FirstUses [] []) (sym g) uses_none;
   lays = subst (λ (xs : List BodyId). Lays_items 0 [] [] [] (map (λ (b : BodyId). b.n) xs)) (sym h) none;
   numbered = n;
@@ -77,19 +77,19 @@ parts_start bodies kinds s blocks e f g h n = record {
 pub domain_next : (items : List Item) (bodies : List Body) (ts ts' : List (NameId × TypeBody)) (s s' : Symbols)
     (blocks : List BodyId) (d : DomainDecl) (t : TypeBody) → ts' ≡ ts ++ (d.name, t) ∷ []
     → PartsSoFar items bodies ts s blocks
-    → UsesMore (symbols_in d.body) s s' × IsTypeOf (list_of s') (DomainType d.body) t
+    → UsesMore (symbols_in d.body) s s' × IsTypeOf (names_of_symbols s') (DomainType d.body) t
     → PartsSoFar (items ++ item.Domain d ∷ []) bodies ts' s' blocks
 domain_next items bodies ts ts' s s' blocks d t e h g = record {
   texts = h.texts;
   named = h.named ++ (d.name.n, DomainType d.body) ∷ [];
   as_text = h.as_text;
-  as_types = subst (λ (xs : List (NameId × TypeBody)). Along (IsNamedType (list_of s')) xs
+  as_types = subst (λ (xs : List (NameId × TypeBody)). Along (IsNamedType (names_of_symbols s')) xs
       (h.named ++ (d.name.n, DomainType d.body) ∷ [])) (sym e)
       (along_append ts h.named ((d.name, t) ∷ []) ((d.name.n, DomainType d.body) ∷ [])
       (types_later _ _ _ g.0.uses_of ts h.named h.as_types)
       (along_and (record { name = refl; is_type = g.1 }) along_none));
-  uses = subst (λ (xs : List ℕ). FirstUses [] xs (list_of s')) (sym (flat_next items (item.Domain d)))
-      (uses_append [] (list_of s) (list_of s') (flat_map symbols_of items) (symbols_in d.body) h.uses g.0.uses_of);
+  uses = subst (λ (xs : List ℕ). FirstUses [] xs (names_of_symbols s')) (sym (flat_next items (item.Domain d)))
+      (uses_append [] (names_of_symbols s) (names_of_symbols s') (flat_map symbols_of items) (symbols_in d.body) h.uses g.0.uses_of);
   lays = subst (λ (bs : List TextBody). Lays_items 0 (items ++ item.Domain d ∷ []) bs
       (h.named ++ (d.name.n, DomainType d.body) ∷ []) (map (λ (b : BodyId). b.n) blocks)) (append-nil h.texts)
       (subst (λ (ks : List ℕ). Lays_items 0 (items ++ item.Domain d ∷ []) (h.texts ++ [])
@@ -124,11 +124,11 @@ module _ (items : List Item) (old new : List Body) (ts : List (NameId × TypeBod
     texts = h.texts ++ record { name = u.name; at = u.at; own = l.own } ∷ l.inner;
     named = h.named ++ (u.name.n, ClassType (length old)) ∷ [];
     as_text = new_text;
-    as_types = subst (λ (xs : List (NameId × TypeBody)). Along (IsNamedType (list_of s)) xs
+    as_types = subst (λ (xs : List (NameId × TypeBody)). Along (IsNamedType (names_of_symbols s)) xs
         (h.named ++ (u.name.n, ClassType (length old)) ∷ [])) (sym e)
         (along_append ts h.named ((u.name, types.Class id) ∷ []) ((u.name.n, ClassType (length old)) ∷ []) h.as_types
         (along_and (record { name = refl; is_type = class_type number }) along_none));
-    uses = uses_same items (item.Class u) (list_of s) refl h.uses;
+    uses = uses_same items (item.Class u) (names_of_symbols s) refl h.uses;
     lays = subst (λ (bs : List TextBody). Lays_items 0 (items ++ item.Class u ∷ []) (h.texts ++ bs)
         (h.named ++ (u.name.n, ClassType (length old)) ∷ []) (map (λ (b : BodyId). b.n) blocks))
         (append-nil (record { name = u.name; at = u.at; own = l.own } ∷ l.inner))
@@ -147,7 +147,7 @@ module _ (items : List Item) (old new : List Body) (ts : List (NameId × TypeBod
     named = h.named;
     as_text = new_text;
     as_types = h.as_types;
-    uses = uses_same items (item.Block u) (list_of s) refl h.uses;
+    uses = uses_same items (item.Block u) (names_of_symbols s) refl h.uses;
     lays = subst (λ (ks : List ℕ). Lays_items 0 (items ++ item.Block u ∷ [])
         (h.texts ++ record { name = u.name; at = u.at; own = l.own } ∷ l.inner) h.named ks) (sym same)
         (subst (λ (bs : List TextBody). Lays_items 0 (items ++ item.Block u ∷ []) (h.texts ++ bs) h.named

@@ -14,9 +14,9 @@ use Rattle.class_table.specs.Members.{Site, Members, members, Inherits, nothing,
 use Rattle.class_table.specs.TablesInside.{site_of}
 use Rattle.class_table.specs.Earliest.{IsEarliest, nowhere, there, IsEarlierOf, no_first, no_second, first, second}
 use Rattle.class_table.specs.Repeating.{IsRepeated}
-use Rattle.class_table.specs.Retested.{names_of_site, names_at, IsTaken, IsMetAgain, among, taken, extending, one_if, IsApart, IsMetBehind, IsTested}
+use Rattle.class_table.specs.Retested.{names_of_site, member_names_at, IsNameTaken, IsMetAgain, among, taken, extending, one_if, IsApart, IsMetBehind, AreNamesTested}
 use Rattle.class_table.specs.Rules.{BreaksNames}
-use Rattle.class_table.specs.Shown.{IsListed, member_place}
+use Rattle.class_table.specs.Shown.{AreMembersListed, member_place}
 use Rattle.class_table.specs.declared.tables.Body.{Body}
 use Rattle.class_table.specs.declared.tables.Owned.{Owned}
 use Rattle.class_table.proofs.FirstPlaces.{earliest_both, earliest_same}
@@ -89,31 +89,31 @@ met_repeated xs ys p (taken t) = record {
 }
 
 -- the names at sites in two parts
-pub names_join : (d : Declared) (xs ys : List Site) → names_at d (xs ++ ys) ≡ names_at d xs ++ names_at d ys
+pub names_join : (d : Declared) (xs ys : List Site) → member_names_at d (xs ++ ys) ≡ member_names_at d xs ++ member_names_at d ys
 names_join d [] ys = refl
 names_join d (x ∷ xs) ys =
     map_join member_place (names_of d x (owned_at d x)) (named_at d (xs ++ ys))
     ∙ (ap (λ (ns : List (ℕ × Place)). names_of_site d x ++ ns) (names_join d xs ys)
-    ∙ (sym (append_assoc (names_of_site d x) (names_at d xs) (names_at d ys))
-    ∙ ap (λ (ns : List (ℕ × Place)). ns ++ names_at d ys)
+    ∙ (sym (append_assoc (names_of_site d x) (member_names_at d xs) (member_names_at d ys))
+    ∙ ap (λ (ns : List (ℕ × Place)). ns ++ member_names_at d ys)
     (sym (map_join member_place (names_of d x (owned_at d x)) (named_at d xs)))))
 
-pub names_parts : (d : Declared) (all : List (BodyId × ℕ)) (n : ℕ) → names_at d (map site_of all)
-    ≡ names_at d (map site_of (take n all)) ++ names_at d (map site_of (drop n all))
+pub names_parts : (d : Declared) (all : List (BodyId × ℕ)) (n : ℕ) → member_names_at d (map site_of all)
+    ≡ member_names_at d (map site_of (take n all)) ++ member_names_at d (map site_of (drop n all))
 names_parts d all n =
-    ap (λ (xs : List (BodyId × ℕ)). names_at d (map site_of xs)) (sym (take-append-drop n all))
-    ∙ (ap (names_at d) (map_join site_of (take n all) (drop n all)) ∙ names_join d _ _)
+    ap (λ (xs : List (BodyId × ℕ)). member_names_at d (map site_of xs)) (sym (take-append-drop n all))
+    ∙ (ap (member_names_at d) (map_join site_of (take n all) (drop n all)) ∙ names_join d _ _)
 
 -- what is found of both kinds
 pub met_earliest : (xs ys : List (ℕ × Place)) (f g r : Option Place) → IsEarliest (IsRepeated ys) f
-    → IsEarliest (IsTaken xs ys) g → IsEarlierOf f g r → IsEarliest (IsMetAgain xs ys) r
+    → IsEarliest (IsNameTaken xs ys) g → IsEarlierOf f g r → IsEarliest (IsMetAgain xs ys) r
 met_earliest xs ys f g r h k e = earliest_same r to back (earliest_both f g r h k e)
   where
-    to : (p : Place) → IsRepeated ys p ⊎ IsTaken xs ys p → IsMetAgain xs ys p
+    to : (p : Place) → IsRepeated ys p ⊎ IsNameTaken xs ys p → IsMetAgain xs ys p
     to p (inl a) = among a
     to p (inr a) = taken a
 
-    back : (p : Place) → IsMetAgain xs ys p → IsRepeated ys p ⊎ IsTaken xs ys p
+    back : (p : Place) → IsMetAgain xs ys p → IsRepeated ys p ⊎ IsNameTaken xs ys p
     back p (among a) = inl a
     back p (taken a) = inr a
 
@@ -176,12 +176,12 @@ pub record HasTested (d : Declared) (bodies : List Body) (i : ℕ) (found : Opti
   pub breaks : (p : Place) → found ≡ Some p → BreaksNames d p
   pub tested : (k : ℕ) (b : Body) → k < i → Stands bodies k b → IsReached d found b
 
-module _ (d : Declared) (bodies : List Body) (listed : IsListed d bodies) where
+module _ (d : Declared) (bodies : List Body) (listed : AreMembersListed d bodies) where
   pub tested_start : HasTested d bodies 0 None
   tested_start = record { breaks = λ p e. absurd (cc); tested = λ k b l s. absurd (omega (arith, l)) }
 
   pub tested_next : (i : ℕ) (b : Body) (f g r : Option Place) → Stands bodies i b → HasTested d bodies i f
-      → IsTested d b g → IsEarlierOf f g r → HasTested d bodies (i + 1) r
+      → AreNamesTested d b g → IsEarlierOf f g r → HasTested d bodies (i + 1) r
   tested_next i b f g r s h t e = record {
     breaks = λ p x. breaks p (one_of_both f g r p e x);
     tested = below_next bodies (IsReached d r) i b s (λ k a l v. before (h.tested k a l v)) here;
@@ -208,7 +208,7 @@ module _ (d : Declared) (bodies : List Body) (listed : IsListed d bodies) where
   -- a name that is met again is so where it was not inherited so
   deep : (i : ℕ) (f : Option Place) → length bodies ≤ i → HasTested d bodies i f → (fuel k : ℕ) (b : Body)
       → Stands bodies k b → length b.all.items < fuel → (p : Place)
-      → IsRepeated (names_at d (map site_of b.all.items)) p → Reaches f p
+      → IsRepeated (member_names_at d (map site_of b.all.items)) p → Reaches f p
   deep i f w h zero k b s l p r = absurd (omega (arith, l))
   deep i f w h (suc fuel) k b s l p r =
       by (deep i f w h fuel) t.apart (repeated_parts _ _ p
@@ -218,12 +218,12 @@ module _ (d : Declared) (bodies : List Body) (listed : IsListed d bodies) where
       t = let v = stands_within bodies k b s in h.tested k b (omega (arith, v, w)) s
 
       by : ((j : ℕ) (a : Body) → Stands bodies j a → length a.all.items < fuel → (q : Place)
-          → IsRepeated (names_at d (map site_of a.all.items)) q → Reaches f q) → IsApart d b.all.items t.n
-          → IsRepeated (names_at d (map site_of (take t.n b.all.items))) p
+          → IsRepeated (member_names_at d (map site_of a.all.items)) q → Reaches f q) → IsApart d b.all.items t.n
+          → IsRepeated (member_names_at d (map site_of (take t.n b.all.items))) p
           ⊎ IsMetBehind d b.all.items t.n p → Reaches f p
       by before a (inr m) = t.reached p m
       by before (inl e) (inl m) = absurd (repeated_none p
-          (subst (λ (n : ℕ). IsRepeated (names_at d (map site_of (take n b.all.items))) p) e m))
+          (subst (λ (n : ℕ). IsRepeated (member_names_at d (map site_of (take n b.all.items))) p) e m))
       by before (inr o) (inl m) =
           let u = body_of d o.class _ o.are_members in
           let v = along_back bodies d.bodies listed.as_text o.class u.0 u.1 in
@@ -233,7 +233,7 @@ module _ (d : Declared) (bodies : List Body) (listed : IsListed d bodies) where
           let z = length_map site_of (take t.n b.all.items) in
           let q = length-take-le t.n b.all.items (omega (arith, o.fewer)) in
           before o.class v.0 v.1 (omega (arith, x, y, z, q, o.fewer, l)) p
-          (subst (λ (ss : List Site). IsRepeated (names_at d ss) p) (sym e) m)
+          (subst (λ (ss : List Site). IsRepeated (member_names_at d ss) p) (sym e) m)
 
   pub tested_end : (i : ℕ) (f : Option Place) → length bodies ≤ i → HasTested d bodies i f
       → IsEarliest (BreaksNames d) f

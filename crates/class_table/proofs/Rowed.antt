@@ -5,9 +5,9 @@ use Rattle.ar_base.specs.Lists.{Stands, IsOneOf, Along}
 use Rattle.ar_base.specs.declared.places.Place.{Place}
 use Rattle.ar_base.proofs.Standing.{stands_none, stands_one, stands_some, stands_split, stands_within, along_length, one_left, one_right, one_split, one_first, one_none, only_item}
 use Rattle.class_table.specs.Declaring.{Declared}
-use Rattle.class_table.specs.Shown.{inside}
+use Rattle.class_table.specs.Shown.{put_inside}
 use Rattle.class_table.specs.TablesInside.{IsBodyOf}
-use Rattle.class_table.specs.Rows.{AreInside, IsRowOf, AddsInside}
+use Rattle.class_table.specs.Rows.{AreInnerBodies, IsRowOf, AddsInside}
 use Rattle.class_table.specs.Rows.AddsInside.{nothing, body as adds_body}
 use Rattle.class_table.specs.declared.tables.Body.{Body}
 use Rattle.class_table.specs.declared.tables.Owned.{Owned}
@@ -23,7 +23,7 @@ row_next d os o old new h (nothing e) = record {
   to = λ b i. let w = h.to b i in (w.0, w.1, one_left os (o ∷ []) w.0 w.2, w.3);
   from = λ p b at i f. elim (one_split os (o ∷ []) p i) [
     | inl j ↦ h.from p b at j f
-    | inr j ↦ (let s = only_item o p j in let g = sym e ∙ (ap (inside d) s ∙ f) in cc)
+    | inr j ↦ (let s = only_item o p j in let g = sym e ∙ (ap (put_inside d) s ∙ f) in cc)
   ];
 }
 row_next d os o old new h (adds_body {b = c} {at = q} e) = record {
@@ -35,7 +35,7 @@ row_next d os o old new h (adds_body {b = c} {at = q} e) = record {
     | inl j ↦ one_left old (c ∷ []) b (h.from p b at j f)
     | inr j ↦
         let s = only_item o p j in
-        let same : c ≡ b = ap (λ (z : ℕ × Option Place). z.0) (same_Some _ _ (sym e ∙ (ap (inside d) s ∙ f))) in
+        let same : c ≡ b = ap (λ (z : ℕ × Option Place). z.0) (same_Some _ _ (sym e ∙ (ap (put_inside d) s ∙ f))) in
         one_right old (c ∷ []) b (subst (IsOneOf (c ∷ [])) same (one_first c []))
   ];
 }
@@ -66,7 +66,7 @@ rows_next d bodies rows new i body row l s h r e = record { each = each_one }
     ]
 
 pub rows_end : (d : Declared) (bodies : List Body) (rows : List (Vec ℕ Global)) → Along IsBodyOf bodies d.bodies
-    → length rows ≡ length bodies → AreRowsOf d bodies rows → AreInside d rows
+    → length rows ≡ length bodies → AreRowsOf d bodies rows → AreInnerBodies d rows
 rows_end d bodies rows shown l h = record {
   long = l ∙ along_length bodies d.bodies shown;
   to = λ a b r.

@@ -9,8 +9,8 @@ use Rattle.ar_base.proofs.Comparing.{lt_or_same}
 use Rattle.class_table.specs.Declaring.{Declared}
 use Rattle.class_table.specs.TablesInside.{IsBodyOf}
 use Rattle.class_table.specs.Rules.{HasInside, IsWithin, itself, further}
-use Rattle.class_table.specs.Shown.{inside}
-use Rattle.class_table.specs.Searching.{marked, IsSeen, OpensOne, Opens, OpensInside}
+use Rattle.class_table.specs.Shown.{put_inside}
+use Rattle.class_table.specs.Searching.{count_of_marked, IsSeen, OpensOne, Opens, OpensInside}
 use Rattle.class_table.specs.declared.tables.Body.{Body}
 use Rattle.class_table.specs.declared.tables.Owned.{Owned}
 use Rattle.class_table.proofs.Taken.{stands_set, set_there, set_same}
@@ -19,14 +19,14 @@ use Rattle.class_table.proofs.Enclosing.{inside_owned, owned_inside, within_then
 
 -- one more is marked
 pub marked-set : (seen : List Bool) (b : ℕ) → b < length seen → get_or seen b false ≡ false
-    → marked (set seen b true) ≡ marked seen + 1
+    → count_of_marked (set seen b true) ≡ count_of_marked seen + 1
 marked-set [] b l e = absurd (omega (arith, l))
 marked-set (true ∷ xs) zero l e = cc
 marked-set (false ∷ xs) zero l e = refl
 marked-set (true ∷ xs) (suc b) l e = ap (λ (n : ℕ). n + 1) (marked-set xs b (omega (arith, l)) e)
 marked-set (false ∷ xs) (suc b) l e = marked-set xs b (omega (arith, l)) e
 
-pub marked-le-length : (seen : List Bool) → marked seen ≤ length seen
+pub marked-le-length : (seen : List Bool) → count_of_marked seen ≤ length seen
 marked-le-length [] = omega arith
 marked-le-length (true ∷ xs) = let h = marked-le-length xs in omega arith
 marked-le-length (false ∷ xs) = let h = marked-le-length xs in omega arith
@@ -82,7 +82,7 @@ opens_new b old new seen l n e h = record {
 
 -- members that put nothing inside
 pub opens_none : (d : Declared) (own : List Owned) (old : List ℕ) (seen : List Bool)
-    → ((o : Owned) → IsOneOf own o → inside d o ≡ None) → IsSeen seen old → Opens d own old old seen
+    → ((o : Owned) → IsOneOf own o → put_inside d o ≡ None) → IsSeen seen old → Opens d own old old seen
 opens_none d own old seen n h = record {
   added = [];
   joined = sym (append-nil old);
@@ -93,12 +93,12 @@ opens_none d own old seen n h = record {
 
 -- a member that puts one inside
 pub opens_some : (d : Declared) (o : Owned) (b : ℕ) (at : Option Place) (old new : List ℕ) (seen : List Bool)
-    → inside d o ≡ Some (b, at) → OpensOne b old new seen → Opens d (o ∷ []) old new seen
+    → put_inside d o ≡ Some (b, at) → OpensOne b old new seen → Opens d (o ∷ []) old new seen
 opens_some d o b at old new seen e h = record {
   added = h.added;
   joined = h.joined;
   only = λ c i. (o, at, one_first o [], e ∙ ap (λ (x : ℕ). Some (x, at)) (sym (h.only c i)));
-  are_open = λ q c p s f m. let same : c ≡ b = sym (ap (λ (z : ℕ × Option Place). z.0) (same_Some _ _ (sym e ∙ (ap (inside d) (is_it q s) ∙ f)))) in subst (IsOneOf new) (sym same) (h.is_open (subst (λ (x : ℕ). x < length seen) same m));
+  are_open = λ q c p s f m. let same : c ≡ b = sym (ap (λ (z : ℕ × Option Place). z.0) (same_Some _ _ (sym e ∙ (ap (put_inside d) (is_it q s) ∙ f)))) in subst (IsOneOf new) (sym same) (h.is_open (subst (λ (x : ℕ). x < length seen) same m));
   is_seen = h.is_seen;
 }
   where

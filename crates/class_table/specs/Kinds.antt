@@ -16,9 +16,9 @@ pub data IsKindOf : Option Kind → Option NamedType → Type 0 where
   class : {id : BodyId} {b : ℕ} → id.n ≡ b → IsKindOf (Some (Class id)) (Some (ClassType b))
 
 -- what is looked up for a name
-abbrev pub kind_at : TypeKinds → ℕ → Option Kind
-kind_at t x = hash.get nat_eq t.kinds x
+abbrev pub kind_looked_up : TypeKinds → ℕ → Option Kind
+kind_looked_up t x = hash.get nat_eq t.kinds x
 
 -- each name is looked up as it is declared
 pub record KnowsTypes (d : Declared) (t : TypeKinds) : Type 0 where
-  pub each : (x : ℕ) → IsKindOf (kind_at t x) (type_named d x)
+  pub each : (x : ℕ) → IsKindOf (kind_looked_up t x) (type_named d x)

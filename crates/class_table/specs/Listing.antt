@@ -11,7 +11,7 @@ use Rattle.class_table.specs.declared.tables.Owned.{Owned}
 use Rattle.class_table.specs.declared.types.TypeKinds.{TypeKinds}
 
 -- the bodies that are done have all their members listed
-pub record AreListed (d : Declared) (bodies : List Body) (done : List ℕ) : Type 0 where
+pub record HaveMembersListed (d : Declared) (bodies : List Body) (done : List ℕ) : Type 0 where
   pub as_text : Along IsBodyOf bodies d.bodies
   pub there : (b : ℕ) → IsOneOf done b → b < length bodies
   pub members : (b : ℕ) (body : Body) → IsOneOf done b → Stands bodies b body
@@ -20,7 +20,7 @@ pub record AreListed (d : Declared) (bodies : List Body) (done : List ℕ) : Typ
 -- the names of types are as declared, and the bodies that are done are listed
 pub record ListsDone (d : Declared) (done : List ℕ) (bodies : List Body) (types : TypeKinds) : Type 0 where
   pub known : KnowsTypes d types
-  pub listed : AreListed d bodies done
+  pub listed : HaveMembersListed d bodies done
 
 -- the class of the name is one of the bodies that are done
 pub record IsDone (d : Declared) (done : List ℕ) (name : ℕ) : Type 0 where

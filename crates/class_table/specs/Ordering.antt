@@ -13,15 +13,15 @@ pub record IsAfter (rows : List (Vec ℕ Global)) (order : List ℕ) : Type 0 wh
   pub each : (k a b : ℕ) → Stands order k a → IsInRow rows a b → (j : ℕ) × (j < k) × Stands order j b
 
 -- each number that is not in the order has one in its row that is not in it either
-pub record IsStuck (rows : List (Vec ℕ Global)) (order : List ℕ) : Type 0 where
+pub record IsOrderStuck (rows : List (Vec ℕ Global)) (order : List ℕ) : Type 0 where
   pub each : (a : ℕ) → a < length rows → (IsOneOf order a → ⊥)
       → (b : ℕ) × IsInRow rows a b × (IsOneOf order b → ⊥)
 
 -- the numbers of the rows in an order in which each comes after those in its row, as far as there is one
-pub record IsOrder (rows : List (Vec ℕ Global)) (order : List ℕ) : Type 0 where
+pub record IsBodyOrder (rows : List (Vec ℕ Global)) (order : List ℕ) : Type 0 where
   pub within : (a : ℕ) → IsOneOf order a → a < length rows
   pub after : IsAfter rows order
-  pub stuck : IsStuck rows order
+  pub stuck : IsOrderStuck rows order
   pub whole : length rows ≤ length order → (a : ℕ) → a < length rows → IsOneOf order a
 
 -- As the order grows

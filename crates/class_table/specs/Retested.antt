@@ -22,11 +22,11 @@ abbrev pub names_of_site : Declared → Site → List (ℕ × Place)
 names_of_site d s = map member_place (names_of d s (owned_at d s))
 
 -- the names with their places that the members at these sites give
-abbrev pub names_at : Declared → List Site → List (ℕ × Place)
-names_at d sites = map member_place (named_at d sites)
+abbrev pub member_names_at : Declared → List Site → List (ℕ × Place)
+member_names_at d sites = map member_place (named_at d sites)
 
 -- the place is that of one of the later names that an earlier one has
-pub record IsTaken (earlier later : List (ℕ × Place)) (p : Place) : Type 0 where
+pub record IsNameTaken (earlier later : List (ℕ × Place)) (p : Place) : Type 0 where
   pub k : ℕ
   pub one : ℕ × Place
   pub stands : Stands later k one
@@ -36,7 +36,7 @@ pub record IsTaken (earlier later : List (ℕ × Place)) (p : Place) : Type 0 wh
 -- the place is that of one of the later names that an earlier one or one of them before it has
 pub data IsMetAgain (earlier later : List (ℕ × Place)) (p : Place) : Type 0 where
   among : IsRepeated later p → IsMetAgain earlier later p
-  taken : IsTaken earlier later p → IsMetAgain earlier later p
+  taken : IsNameTaken earlier later p → IsMetAgain earlier later p
 
 -- 1 where there is such a number, and 0 where there is none
 abbrev pub one_if : Option ℕ → ℕ
@@ -60,11 +60,11 @@ IsApart d all n = (n ≡ 0) ⊎ AreOfClass d all n
 
 -- the place is that of a name of these members that one before it has, where not both are among the first n
 abbrev pub IsMetBehind : Declared → List (BodyId × ℕ) → ℕ → Place → Type 0
-IsMetBehind d all n p = IsMetAgain (names_at d (map site_of (take n all))) (names_at d (map site_of (drop n all))) p
+IsMetBehind d all n p = IsMetAgain (member_names_at d (map site_of (take n all))) (member_names_at d (map site_of (drop n all))) p
 
 -- where the first n of the body's members are those of a class, or none, the earliest place was found at which a name of
 -- its members is met that one before it has, and not both are among these n, or it was found that there is none
-pub record IsTested (d : Declared) (body : Body) (found : Option Place) : Type 0 where
+pub record AreNamesTested (d : Declared) (body : Body) (found : Option Place) : Type 0 where
   pub n : ℕ
   pub apart : IsApart d body.all.items n
   pub earliest : IsEarliest (IsMetBehind d body.all.items n) found

@@ -45,24 +45,24 @@ inside_form d (member.Declare t names settings) = inside_type d t.form t.at
 inside_form d _ = None
 
 -- the same of a member of a body, where a block has no place
-abbrev pub inside : Declared → Owned → Option (ℕ × Option Place)
-inside d (Plain m) = inside_form d (out-Member m)
-inside d (Nested x at b) = Some (b.n, None)
+abbrev pub put_inside : Declared → Owned → Option (ℕ × Option Place)
+put_inside d (Plain m) = inside_form d (out-Member m)
+put_inside d (Nested x at b) = Some (b.n, None)
 
 -- the member names, at the place, a class that has the body inside it
-pub record IsAgain (d : Declared) (body : ℕ) (owned : Owned) (p : Place) : Type 0 where
+pub record NamesRound (d : Declared) (body : ℕ) (owned : Owned) (p : Place) : Type 0 where
   pub class : ℕ
-  pub names : inside d owned ≡ Some (class, Some p)
+  pub names : put_inside d owned ≡ Some (class, Some p)
   pub again : IsWithin d class body
 
 -- one of these members does so
 pub record NamesAgain (d : Declared) (body : ℕ) (own : List Owned) (p : Place) : Type 0 where
   pub owned : Owned
   pub is_own : IsOneOf own owned
-  pub is_again : IsAgain d body owned p
+  pub is_again : NamesRound d body owned p
 
 -- all members of each body are listed in it
-pub record IsListed (d : Declared) (bodies : List Body) : Type 0 where
+pub record AreMembersListed (d : Declared) (bodies : List Body) : Type 0 where
   pub as_text : Along IsBodyOf bodies d.bodies
   pub members : (b : ℕ) (body : Body) → Stands bodies b body → Members d b (map site_of body.all.items)
 

@@ -6,7 +6,7 @@ ghost use Rattle.class_table.specs.Declaring.{Declared};
 ghost use Rattle.class_table.specs.Earliest.{IsEarliest};
 ghost use Rattle.class_table.specs.Rules.{IsWithin, BreaksContainment};
 ghost use Rattle.class_table.specs.Kinds.{KnowsTypes};
-ghost use Rattle.class_table.specs.Shown.{Shows, NamesAgain, IsAgain};
+ghost use Rattle.class_table.specs.Shown.{Shows, NamesAgain, NamesRound};
 ghost use Rattle.class_table.specs.Searching.{IsSeen, Opens, OpensOne, OpensInside};
 
 use crate::earliest::earliest;
@@ -15,6 +15,26 @@ use crate::tables::{Body, Owned};
 use crate::types::TypeKinds;
 use ar_base::{Memory, Place};
 use std::alloc::Global;
+
+/// The earliest type name in a body whose class has that body inside it.
+pub(crate) fn first_contained(
+    alloc: Global,
+    bodies: &[Body],
+    types: &TypeKinds,
+) -> Result<Option<Place>, Memory>
+    requires { length bodies.now ≤ 16777216 }
+    ensures { (d : Declared) → Shows d bodies.now types.now
+        → IfOk result (IsEarliest (BreaksContainment d)) }
+{
+    let mut found = None;
+    for (place, body) in bodies.iter().enumerate() {
+        found = earliest(
+            found,
+            in_body(alloc, bodies, types, place as u32, &body.own)?,
+        );
+    }
+    Ok(found)
+}
 
 // Whether the second body is the first or inside it at some depth. Each body is opened once.
 fn reaches(
@@ -138,7 +158,7 @@ fn again(
 ) -> Result<Option<Place>, Memory>
     requires { body < length bodies.now }
     ensures { (d : Declared) → Shows d bodies.now types.now
-        → IfOk result (IsEarliest (IsAgain d body owned.now)) }
+        → IfOk result (IsEarliest (NamesRound d body owned.now)) }
 {
     match inside_of(owned, types) {
         None => Ok(None),
@@ -153,24 +173,4 @@ fn again(
             }
         },
     }
-}
-
-/// The earliest type name in a body whose class has that body inside it.
-pub(crate) fn first_contained(
-    alloc: Global,
-    bodies: &[Body],
-    types: &TypeKinds,
-) -> Result<Option<Place>, Memory>
-    requires { length bodies.now ≤ 16777216 }
-    ensures { (d : Declared) → Shows d bodies.now types.now
-        → IfOk result (IsEarliest (BreaksContainment d)) }
-{
-    let mut found = None;
-    for (place, body) in bodies.iter().enumerate() {
-        found = earliest(
-            found,
-            in_body(alloc, bodies, types, place as u32, &body.own)?,
-        );
-    }
-    Ok(found)
 }

@@ -6,8 +6,8 @@ ghost use Rattle.class_table.specs.TablesInside.{site_of};
 ghost use Rattle.class_table.specs.Earliest.{IsEarliest};
 ghost use Rattle.class_table.specs.Names.{name_and_place};
 ghost use Rattle.class_table.specs.Repeating.{IsNamed};
-ghost use Rattle.class_table.specs.Retested.{IsTaken, AddsGivenName, AddsGiven, KnowsGiven, MayGive, names_at, names_of_site};
-ghost use Rattle.class_table.specs.Shown.{Shows, IsListed};
+ghost use Rattle.class_table.specs.Retested.{IsNameTaken, AddsGivenName, AddsGiven, KnowsGiven, MayGive, member_names_at, names_of_site};
+ghost use Rattle.class_table.specs.Shown.{Shows, AreMembersListed};
 
 use crate::earliest::earliest;
 use crate::giving::meet_site;
@@ -48,7 +48,7 @@ pub(crate) struct Given {
 impl Given {
     /// The names that the members of these bodies give where they stand.
     pub(crate) fn new(alloc: Global, bodies: &[Body], types: &TypeKinds) -> Result<Given, Memory>
-        ensures { (d : Declared) → Shows d bodies.now types.now → IsListed d bodies.now
+        ensures { (d : Declared) → Shows d bodies.now types.now → AreMembersListed d bodies.now
             → IfOk result (KnowsGiven d) }
     {
         let mut given = Given {
@@ -108,7 +108,7 @@ impl Given {
     // Whether a member at one of these sites gives the name. Takes no memory.
     fn has(&self, sites: &[(BodyId, u32)], name: NameId) -> bool
         ensures { (d : Declared) → KnowsGiven d self.now
-            → (result ≡ true) ↔ IsNamed (names_at d (map site_of sites.now)) name.n }
+            → (result ≡ true) ↔ IsNamed (member_names_at d (map site_of sites.now)) name.n }
     {
         let giver = self.givers.get(&name.n).copied();
         for site in sites {
@@ -127,7 +127,7 @@ impl Given {
         list: &[(NameId, Place)],
     ) -> Option<Place>
         ensures { (d : Declared) → KnowsGiven d self.now
-            → IsEarliest (IsTaken (names_at d (map site_of sites.now)) (map name_and_place list.now))
+            → IsEarliest (IsNameTaken (member_names_at d (map site_of sites.now)) (map name_and_place list.now))
             result }
     {
         let mut found = None;

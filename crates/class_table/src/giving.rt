@@ -4,7 +4,7 @@ ghost use Rattle.std.specs.Prelude.{◌≡◌, ◌++◌, ◌∷◌, [], ℕ, Lis
 ghost use Rattle.class_table.specs.Declaring.{Declared};
 ghost use Rattle.class_table.specs.Members.{Site, names_of};
 ghost use Rattle.class_table.specs.Names.{name_and_place};
-ghost use Rattle.class_table.specs.Retested.{names_at, names_of_site};
+ghost use Rattle.class_table.specs.Retested.{member_names_at, names_of_site};
 ghost use Rattle.class_table.specs.TablesInside.{site_of};
 ghost use Rattle.class_table.specs.Kinds.{KnowsTypes};
 ghost use Rattle.class_table.specs.Shown.{Shows, IsDeclaredBy, member_place};
@@ -25,7 +25,7 @@ pub(crate) fn names_given(
 ) -> Result<Vec<(NameId, Place)>, Memory>
     ensures { (d : Declared) → Shows d bodies.now types.now
         → IfOk result (λ names. map name_and_place names.items
-        ≡ names_at d (map site_of sites.now)) }
+        ≡ member_names_at d (map site_of sites.now)) }
 {
     let mut names = Vec::new(alloc);
     for site in sites {

@@ -3,8 +3,8 @@
 ghost use Rattle.std.specs.Prelude.{◌≡◌, option_map, IfOk, OnOk};
 ghost use Rattle.class_table.specs.Declaring.{Declared};
 ghost use Rattle.class_table.specs.Kinds.{KnowsTypes};
-ghost use Rattle.class_table.specs.Shown.{Shows, inside, inside_type};
-ghost use Rattle.class_table.specs.Rows.{AreInside, IsRowOf, AddsInside};
+ghost use Rattle.class_table.specs.Shown.{Shows, put_inside, inside_type};
+ghost use Rattle.class_table.specs.Rows.{AreInnerBodies, IsRowOf, AddsInside};
 ghost use Rattle.ar_syntax.specs.declared.members.TypeForm.TheVariants.{Named};
 
 use crate::tables::{Body, Owned};
@@ -23,7 +23,7 @@ pub(crate) struct Inside {
 /// The body that a member puts inside its own body, if it puts one there. Takes no memory.
 pub(crate) fn inside_of(owned: &Owned, types: &TypeKinds) -> Option<Inside>
     ensures { (d : Declared) → KnowsTypes d types.now
-        → option_map (λ i. (i.body.n, i.at)) result ≡ inside d owned.now }
+        → option_map (λ i. (i.body.n, i.at)) result ≡ put_inside d owned.now }
 {
     let member = match owned {
         Owned::Nested(_, _, body) => {
@@ -60,7 +60,7 @@ pub(crate) fn all_inside(
     types: &TypeKinds,
 ) -> Result<Vec<Vec<u32>>, Memory>
     ensures { (d : Declared) → Shows d bodies.now types.now
-        → IfOk result (λ rows. AreInside d rows.items) }
+        → IfOk result (λ rows. AreInnerBodies d rows.items) }
 {
     let mut rows = Vec::new(alloc);
     for body in bodies {

@@ -4,7 +4,7 @@ ghost use Rattle.std.specs.Prelude.{◌≡◌, ◌++◌, ◌<◌, ◌≤◌, ℕ
 ghost use Rattle.class_table.specs.Declaring.{Declared};
 ghost use Rattle.class_table.specs.Members.{Members, Inherits, own_at, sites_from, extended as declared_extended};
 ghost use Rattle.class_table.specs.TablesInside.{site_of};
-ghost use Rattle.class_table.specs.Shown.{Shows, IsListed};
+ghost use Rattle.class_table.specs.Shown.{Shows, AreMembersListed};
 ghost use Rattle.class_table.specs.Listing.{ListsDone, IsDone, AreDone, CanList, IsOfClass};
 
 use crate::tables::{Body, MOST_MEMBERS, Owned};
@@ -22,7 +22,7 @@ pub(crate) fn list_members(
 ) -> Result<(), Memory>
     requires { (d : Declared) × Shows d bodies.old types.now × CanList d order.now }
     ensures { (d : Declared) → Shows d bodies.old types.now → CanList d order.now
-        → OnOk result (IsListed d bodies.new) }
+        → OnOk result (AreMembersListed d bodies.new) }
 {
     let mut room = MOST_MEMBERS;
     for body in order {

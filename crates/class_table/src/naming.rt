@@ -5,10 +5,10 @@ ghost use Rattle.class_table.specs.Declaring.{Declared};
 ghost use Rattle.class_table.specs.Members.{Members, own_at};
 ghost use Rattle.class_table.specs.TablesInside.{site_of};
 ghost use Rattle.class_table.specs.Earliest.{IsEarliest};
-ghost use Rattle.class_table.specs.Retested.{IsApart, IsTested, KnowsGiven, extending};
+ghost use Rattle.class_table.specs.Retested.{IsApart, AreNamesTested, KnowsGiven, extending};
 ghost use Rattle.class_table.specs.Rules.{BreaksNames};
 ghost use Rattle.class_table.specs.Kinds.{KnowsTypes};
-ghost use Rattle.class_table.specs.Shown.{Shows, IsListed};
+ghost use Rattle.class_table.specs.Shown.{Shows, AreMembersListed};
 
 use crate::earliest::earliest;
 use crate::given::Given;
@@ -21,6 +21,23 @@ use crate::types::TypeKinds;
 use ar_base::{BodyId, Memory, Place};
 use ar_syntax::Member;
 use std::alloc::Global;
+
+/// The earliest place of a later one of two members of a body that have one name.
+pub(crate) fn first_named_twice(
+    alloc: Global,
+    bodies: &[Body],
+    types: &TypeKinds,
+) -> Result<Option<Place>, Memory>
+    ensures { (d : Declared) → KnowsTypes d types.now → AreMembersListed d bodies.now
+        → IfOk result (IsEarliest (BreaksNames d)) }
+{
+    let given = Given::new(alloc, bodies, types)?;
+    let mut found = None;
+    for body in bodies {
+        found = earliest(found, in_body(alloc, bodies, types, &given, body)?);
+    }
+    Ok(found)
+}
 
 // How many of a list's members extend a class.
 fn count_extending(own: &[Owned]) -> usize
@@ -78,28 +95,11 @@ fn in_body(
 ) -> Result<Option<Place>, Memory>
     ensures { (d : Declared) (b : ℕ) → Shows d bodies.now types.now → KnowsGiven d given.now
         → Members d b (map site_of body.now.all.items) → own_at d b ≡ body.now.own.items
-        → IfOk result (IsTested d body.now) }
+        → IfOk result (AreNamesTested d body.now) }
 {
     let before = tested_before(bodies, body);
     let list = names_given(alloc, bodies, types, &body.all[before..])?;
     let mut names = Repeats::new(alloc);
     names.add_all(&list)?;
     Ok(earliest(names.found, given.first_taken(&body.all[..before], &list)))
-}
-
-/// The earliest place of a later one of two members of a body that have one name.
-pub(crate) fn first_named_twice(
-    alloc: Global,
-    bodies: &[Body],
-    types: &TypeKinds,
-) -> Result<Option<Place>, Memory>
-    ensures { (d : Declared) → KnowsTypes d types.now → IsListed d bodies.now
-        → IfOk result (IsEarliest (BreaksNames d)) }
-{
-    let given = Given::new(alloc, bodies, types)?;
-    let mut found = None;
-    for body in bodies {
-        found = earliest(found, in_body(alloc, bodies, types, &given, body)?);
-    }
-    Ok(found)
 }

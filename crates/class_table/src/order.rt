@@ -4,7 +4,7 @@ ghost use Rattle.std.specs.Prelude.{◌≡◌, ◌<◌, ◌⊎◌, ◌^◌, ℕ,
 ghost use Rattle.std.specs.Global.{Global};
 ghost use Rattle.ar_base.specs.Lists.{Stands, IsOneOf};
 ghost use Rattle.class_table.specs.Searching.{IsSeen, OpensOne};
-ghost use Rattle.class_table.specs.Ordering.{IsOrder, IsSorting, Sorts};
+ghost use Rattle.class_table.specs.Ordering.{IsBodyOrder, IsSorting, Sorts};
 ghost use Rattle.class_table.specs.Rows.{IsInRow};
 
 use ar_base::{Memory, numbers_below};
@@ -26,7 +26,7 @@ struct Sorting {
 pub(crate) fn put_in_order(alloc: Global, rows: Vec<Vec<u32>>) -> Result<Vec<u32>, Memory>
     requires within { (a b : ℕ) → IsInRow rows.items a b → b < length rows.items }
     requires few { length rows.items < 2 ^ 32 }
-    ensures { IfOk result (λ order. IsOrder rows.items order.items) }
+    ensures { IfOk result (λ order. IsBodyOrder rows.items order.items) }
 {
     let all = numbers_below(alloc, rows.len())?;
     let mut sorting = Sorting::new(alloc, rows)?;
@@ -133,7 +133,7 @@ impl Sorting {
     fn release_all(&mut self, alloc: Global) -> Result<(), Memory>
         requires { Sorts self.old 0 [] }
         ensures { (rows : List (Vec ℕ Global)) → IsSorting rows self.old 0 []
-            → OnOk result (IsOrder rows self.new.order.items) }
+            → OnOk result (IsBodyOrder rows self.new.order.items) }
     {
         for next in 0..self.placed.len() {
             if next >= self.order.len() {

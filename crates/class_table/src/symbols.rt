@@ -6,7 +6,7 @@ ghost use Rattle.ar_base.specs.Lists.{Along, Stands};
 ghost use Rattle.ar_base.specs.declared.places.Place.{Place};
 ghost use Rattle.class_table.specs.Declaring.{symbols_in, DomainType};
 ghost use Rattle.class_table.specs.TablesInside.{IsTypeOf};
-ghost use Rattle.class_table.specs.Symbols.{AreNumbered, UsesMore, list_of};
+ghost use Rattle.class_table.specs.Symbols.{AreNumberedSymbols, UsesMore, names_of_symbols};
 
 use crate::tables::TypeBody;
 use ar_base::{Memory, NameId, Place};
@@ -25,8 +25,8 @@ pub(crate) struct Symbols {
 impl Symbols {
     /// No symbols yet. Takes no memory.
     pub(crate) fn new(alloc: Global) -> Symbols
-        ensures numbered { AreNumbered result }
-        ensures list { list_of result ≡ [] }
+        ensures numbered { AreNumberedSymbols result }
+        ensures list { names_of_symbols result ≡ [] }
     {
         Symbols {
             list: Vec::new(alloc),
@@ -36,9 +36,9 @@ impl Symbols {
 
     // The number of a symbol: its own, or the next one where it is new.
     fn number(&mut self, name: NameId) -> Result<u32, Memory>
-        requires { AreNumbered self.old }
+        requires { AreNumberedSymbols self.old }
         ensures { IfOk result (λ n. UsesMore (name.n ∷ []) self.old self.new
-            × Stands (list_of self.new) n name.n) }
+            × Stands (names_of_symbols self.new) n name.n) }
     {
         match self.numbers.get(&name.n).copied() {
             Some(number) => Ok(number),
@@ -53,9 +53,9 @@ impl Symbols {
 
     // The numbers of the symbols of a declaration.
     fn numbers(&mut self, alloc: Global, names: &[(NameId, Place)]) -> Result<Vec<u32>, Memory>
-        requires { AreNumbered self.old }
+        requires { AreNumberedSymbols self.old }
         ensures { IfOk result (λ numbers. UsesMore (map (λ n. n.0.n) names.now) self.old self.new
-            × Along (λ n k. Stands (list_of self.new) k n.0.n) names.now numbers.items) }
+            × Along (λ n k. Stands (names_of_symbols self.new) k n.0.n) names.now numbers.items) }
     {
         let mut numbers = Vec::new(alloc);
         for (name, _) in names {
@@ -66,9 +66,9 @@ impl Symbols {
 
     /// The type that a declaration of a domain declares.
     pub(crate) fn domain(&mut self, alloc: Global, body: &DomainBody) -> Result<TypeBody, Memory>
-        requires { AreNumbered self.old }
+        requires { AreNumberedSymbols self.old }
         ensures { IfOk result (λ t. UsesMore (symbols_in body.now) self.old self.new
-            × IsTypeOf (list_of self.new) (DomainType body.now) t) }
+            × IsTypeOf (names_of_symbols self.new) (DomainType body.now) t) }
     {
         match body {
             DomainBody::Range(low, high) => Ok(TypeBody::Domain(Domain::Range(*low, *high))),

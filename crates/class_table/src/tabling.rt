@@ -12,9 +12,9 @@ ghost use Rattle.class_table.specs.Testing.{TakesApart, AreAsDeclared};
 ghost use Rattle.ar_syntax.specs.declared.items.Model.{Model as Tree};
 ghost use Rattle.class_table.specs.Earliest.{IsEarliest};
 ghost use Rattle.class_table.specs.Rules.{BreaksContainment, BreaksTextRule};
-ghost use Rattle.class_table.specs.Rows.{AreInside};
-ghost use Rattle.class_table.specs.Ordering.{IsOrder};
-ghost use Rattle.class_table.specs.Shown.{Shows, IsListed};
+ghost use Rattle.class_table.specs.Rows.{AreInnerBodies};
+ghost use Rattle.class_table.specs.Ordering.{IsBodyOrder};
+ghost use Rattle.class_table.specs.Shown.{Shows, AreMembersListed};
 
 use crate::containment::first_contained;
 use crate::declaring::{Declared, declare};
@@ -31,6 +31,27 @@ use ar_base::{Memory, NameId, Place, RuleFault, keep};
 use ar_syntax::{Item, Model};
 use std::alloc::Global;
 
+/// The table of a model, whose main block is the top-level block of the name `main`, else the last one. Refused with
+/// the least broken rule of L1 to L5, at the earliest place where it is broken; never for a limit.
+pub fn table(alloc: Global, model: Model, main: Option<&str>) -> Result<Classes, RuleFault>
+    ensures { Meets (Tabulates (option_map (λ t. t.now) main.entry)) (λ c answer. answer ≡ c) model
+        result }
+{
+    let Model { names, items, end } = model;
+    let mut declared = taken_apart(alloc, items)?;
+    list_all(alloc, &mut declared.bodies, &declared.types)?;
+    let Some(main) = main_block(&names, &declared.bodies, &declared.blocks, main) else {
+        return Err(RuleFault::Rule(5, end));
+    };
+    Ok(Classes {
+        names,
+        bodies: declared.bodies,
+        types: declared.types,
+        symbols: declared.symbols,
+        main,
+    })
+}
+
 // The earliest type name in a body whose class has that body inside it. An order of all bodies shows that there is none.
 fn first_inside_itself(
     alloc: Global,
@@ -40,7 +61,7 @@ fn first_inside_itself(
 ) -> Result<Option<Place>, Memory>
     requires { length bodies.now ≤ 16777216 }
     ensures { (d : Declaration) (rows : List (Vec ℕ Global)) → Shows d bodies.now types.now
-        → AreInside d rows → IsOrder rows order.now
+        → AreInnerBodies d rows → IsBodyOrder rows order.now
         → IfOk result (IsEarliest (BreaksContainment d)) }
 {
     if order.len() >= bodies.len() {
@@ -74,7 +95,7 @@ fn list_all(
         → AreAsDeclared model d bodies.old types.now
         → AreKept (1 ∷ []) (BreaksTextRule model main d)
         → Meets (Keeps (1 ∷ 2 ∷ 3 ∷ 4 ∷ []) (BreaksTextRule model main))
-        (λ d _. IsListed d bodies.new) d result }
+        (λ d _. AreMembersListed d bodies.new) d result }
 {
     let kinds = TypeKinds::new(alloc, types)?;
     keep(2, first_misnamed(bodies, &kinds))?;
@@ -83,25 +104,4 @@ fn list_all(
     keep(3, first_inside_itself(alloc, bodies, &kinds, &order)?)?;
     list_members(alloc, bodies, &kinds, &order)?;
     keep(4, first_named_twice(alloc, bodies, &kinds)?)
-}
-
-/// The table of a model, whose main block is the top-level block of the name `main`, else the last one. Refused with
-/// the least broken rule of L1 to L5, at the earliest place where it is broken; never for a limit.
-pub fn table(alloc: Global, model: Model, main: Option<&str>) -> Result<Classes, RuleFault>
-    ensures { Meets (Tabulates (option_map (λ t. t.now) main.entry)) (λ c answer. answer ≡ c) model
-        result }
-{
-    let Model { names, items, end } = model;
-    let mut declared = taken_apart(alloc, items)?;
-    list_all(alloc, &mut declared.bodies, &declared.types)?;
-    let Some(main) = main_block(&names, &declared.bodies, &declared.blocks, main) else {
-        return Err(RuleFault::Rule(5, end));
-    };
-    Ok(Classes {
-        names,
-        bodies: declared.bodies,
-        types: declared.types,
-        symbols: declared.symbols,
-        main,
-    })
 }

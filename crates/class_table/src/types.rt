@@ -5,8 +5,8 @@ ghost use Rattle.ar_base.specs.Lists.{Along};
 ghost use Rattle.class_table.specs.Declaring.{Declared};
 ghost use Rattle.class_table.specs.Members.{class_named};
 ghost use Rattle.class_table.specs.TablesInside.{IsNamedType};
-ghost use Rattle.class_table.specs.Kinds.{KnowsTypes, kind_at};
-ghost use Rattle.class_table.specs.Kinding.{kind_of_type};
+ghost use Rattle.class_table.specs.Kinds.{KnowsTypes, kind_looked_up};
+ghost use Rattle.class_table.specs.Kinding.{kind_of_type_body};
 
 use crate::tables::TypeBody;
 use ar_base::{BodyId, Memory, NameId};
@@ -29,7 +29,7 @@ pub(crate) struct TypeKinds {
 }
 
 fn kind_of(body: &TypeBody) -> Kind
-    ensures { result ≡ kind_of_type body.now }
+    ensures { result ≡ kind_of_type_body body.now }
 {
     match body {
         TypeBody::Domain(_) => Kind::Domain,
@@ -56,7 +56,7 @@ impl TypeKinds {
 
     /// What the name names, where it is a type's. Takes no memory.
     pub(crate) fn kind(&self, name: NameId) -> Option<Kind>
-        ensures { result ≡ kind_at self.now name.n }
+        ensures { result ≡ kind_looked_up self.now name.n }
     {
         self.kinds.get(&name.n).copied()
     }

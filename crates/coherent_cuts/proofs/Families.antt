@@ -10,11 +10,11 @@ use Rattle.zdd_families.proofs.Members.{within_law}
 use Rattle.eq_core.specs.Values.{has_event}
 use Rattle.diagram_steps.specs.declared.trees.NumberedEdge.{NumberedEdge}
 use Rattle.diagram_steps.specs.declared.trees.NumberedTree.{NumberedTree}
-use Rattle.diagram_steps.specs.Trees.{edges_of, HasEvent}
+use Rattle.diagram_steps.specs.Trees.{edges_of, TreeHasEvent}
 use Rattle.mode_diagrams.specs.Trees.{IsOnPath, last, AreNumbered, AreApart as AreTreesApart}
 use Rattle.mode_diagrams.specs.Costs.{HaveDifferentEvents}
-use Rattle.mode_diagrams.specs.Sets.{HasPath}
-use Rattle.least_families.specs.Least.{covers, AreApart, AreLeast, AreLeastUpTo}
+use Rattle.mode_diagrams.specs.Sets.{HasPathEvents}
+use Rattle.least_families.specs.Least.{covers, AreIncomparable, AreLeast, AreLeastUpTo}
 use Rattle.least_families.proofs.Covering.{covers_from, covers_self, covered, up_to_part}
 use Rattle.least_families.proofs.Least.{least_within}
 use Rattle.coherent_cuts.specs.Gates.{IsWithPathOf, HasPaths, HasPathsUpTo}
@@ -121,7 +121,7 @@ pub record IsPathFamily (edges : List NumberedEdge) (mode : ℕ) (f : Family) : 
   pub sound : (p : List ℕ) → has f p ≡ true → (x : ℕ) → IsOneOf p x → IsOnPath edges x mode
   pub whole : (p : List ℕ) → has f p ≡ true → (x : ℕ) → IsOnPath edges x mode → IsOneOf p x
 
-pub path_family : (edges : List NumberedEdge) (mode : ℕ) (f : Family) → HasPath edges mode ([] ∷ []) f
+pub path_family : (edges : List NumberedEdge) (mode : ℕ) (f : Family) → HasPathEvents edges mode ([] ∷ []) f
     → IsPathFamily edges mode f
 path_family edges mode f h = record {
   some = let w = h.whole [] refl in (w.0, w.1);
@@ -135,7 +135,7 @@ path_family edges mode f h = record {
     nothing [] i x o = one_none x o
     nothing (y ∷ s) i x o = true≢false (sym i)
 
-pub path_apart : (edges : List NumberedEdge) (mode : ℕ) (f : Family) → IsPathFamily edges mode f → AreApart f
+pub path_apart : (edges : List NumberedEdge) (mode : ℕ) (f : Family) → IsPathFamily edges mode f → AreIncomparable f
 path_apart edges mode f p = record {
   least = λ s t i j w. (within_law t s).1 (λ x o. p.whole s i x (p.sound t j x o));
 }
@@ -207,7 +207,7 @@ module _ (order : Option ℕ) (ns : List NumberedTree) (numbered : AreNumbered n
     }
 
   -- an event that no tree has is in no such set
-  pub event_nowhere : (e : ℕ) → ((k : ℕ) (tree : NumberedTree) → Stands ns k tree → HasEvent tree e → ⊥) → (r : Family)
+  pub event_nowhere : (e : ℕ) → ((k : ℕ) (tree : NumberedTree) → Stands ns k tree → TreeHasEvent tree e → ⊥) → (r : Family)
       → r ≡ [] → AreLeast (HasPathsUpTo order ns) (λ s. has_event s e) r
   event_nowhere e none r is = subst (AreLeast (HasPathsUpTo order ns) (λ s. has_event s e)) (sym is) (record {
     apart = record { least = λ s t i j w. absurd (true≢false (sym i)) };

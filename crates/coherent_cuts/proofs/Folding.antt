@@ -4,25 +4,25 @@ use Rattle.std.specs.Int.{from_bool}
 use Rattle.ar_base.specs.Lists.{Stands, IsOneOf}
 use Rattle.ar_base.proofs.Standing.{stands_one, stands_none, stands_split, stands_within}
 use Rattle.zdd_families.specs.Families.{Family}
-use Rattle.zdd_nodes.specs.Nodes.{NodeId, Stored, family, IsNumber}
+use Rattle.zdd_nodes.specs.Nodes.{NodeId, Stored, family, IsFamilyNumber}
 use Rattle.eq_core.specs.Gates.{Operand, GateIs, Gate}
 use Rattle.eq_core.specs.Ordered.{AreOrdered}
 use Rattle.eq_core.specs.Values.{operand_at, joint_at, values_at, value_at}
 use Rattle.eq_core.specs.ValuesInside.{IsBelow}
 use Rattle.eq_core.proofs.Telling.{gate_value, place_below}
 use Rattle.gate_cones.specs.Cones.{own, named}
-use Rattle.gate_cones.specs.Marks.{AreMarks}
+use Rattle.gate_cones.specs.Marks.{AreConeMarks}
 use Rattle.diagram_steps.specs.Putting.{Extends}
 use Rattle.diagram_steps.specs.declared.trees.NumberedTree.{NumberedTree}
 use Rattle.diagram_steps.proofs.Growing.{kept, still}
 use Rattle.least_families.specs.declared.memo.Operation.{Operation}
 use Rattle.least_families.specs.Least.{AreLeast}
-use Rattle.least_families.specs.Kept.{Keeps, IsOperand}
+use Rattle.least_families.specs.Kept.{KeepsHeld, IsOperand}
 use Rattle.least_families.proofs.Held.{keeps_then}
 use Rattle.least_families.proofs.Steps.{operand_kept}
 use Rattle.std.proofs.lemmas.Bool.{cases_eq}
 use Rattle.coherent_cuts.specs.Coherent.{IsPlain, ArePlain, IsCoherent}
-use Rattle.coherent_cuts.specs.Gates.{HasPathsUpTo, IsFamilyOf, IsFamilyOfJoint, IsJoined, AreTabled, IsTabled, EachTabled}
+use Rattle.coherent_cuts.specs.Gates.{HasPathsUpTo, IsFamilyOf, IsFamilyOfJoint, IsJoined, AreTabledOperands, IsTabled, EachTabled}
 use Rattle.coherent_cuts.proofs.Families.{both_least, either_least, never_least, always_least}
 
 -- ---- families in a store that grows
@@ -33,7 +33,7 @@ family_kept order ns gates o s t n g f = record {
   least = subst (AreLeast (HasPathsUpTo order ns) (value_at gates o)) (sym (kept s t n g f.in_store)) f.least;
 }
 
-pub tabled_kept : (table : List NodeId) (s t : Stored) → Extends s t → AreTabled table s → AreTabled table t
+pub tabled_kept : (table : List NodeId) (s t : Stored) → Extends s t → AreTabledOperands table s → AreTabledOperands table t
 tabled_kept table s t g a = record { each = λ h n st. operand_kept s t n.n g (a.each h n st) }
 
 pub each_kept : (order : Option ℕ) (ns : List NumberedTree) (gates : List Gate) (table : List NodeId) (s t : Stored)
@@ -61,7 +61,7 @@ drop_all (o ∷ os) (suc k) e = drop_all os k (omega (arith, e))
 pub record IsFolded (order : Option ℕ) (ns : List NumberedTree) (table : List NodeId) (old : Stored) (both : Bool)
     (os : List Operand) (left : ℕ) (entries : List (Operation × NodeId)) (s : Stored) (n : ℕ) : Type 0 where
   pub within : left ≤ length os
-  pub kept : Keeps old entries s
+  pub kept : KeepsHeld old entries s
   pub operand : IsOperand s n
   pub least : (gates : List Gate) → EachTabled order ns gates table old os
       → AreLeast (HasPathsUpTo order ns) (λ set. joint_at both set (values_at set gates) (drop left os)) (family s n)
@@ -72,13 +72,13 @@ constant : (order : Option ℕ) (ns : List NumberedTree) (both : Bool) (gates : 
 constant order ns true gates s n e = always_least order ns (family s n) (ap (family s) e)
 constant order ns false gates s n e = never_least (family s n) (ap (family s) e)
 
-constant_number : (both : Bool) (s : Stored) (n : ℕ) → n ≡ from_bool both → IsNumber s n
+constant_number : (both : Bool) (s : Stored) (n : ℕ) → n ≡ from_bool both → IsFamilyNumber s n
 constant_number true s n e = omega (arith, e)
 constant_number false s n e = omega (arith, e)
 
 pub folded_none : (order : Option ℕ) (ns : List NumberedTree) (table : List NodeId) (old : Stored) (both : Bool)
     (os : List Operand) (left : ℕ) (entries : List (Operation × NodeId)) (n : ℕ) → left ≡ length os
-    → n ≡ from_bool both → Keeps old entries old → IsFolded order ns table old both os left entries old n
+    → n ≡ from_bool both → KeepsHeld old entries old → IsFolded order ns table old both os left entries old n
 folded_none order ns table old both os left entries n e z k = record {
   within = omega (arith, e);
   kept = k;
@@ -106,8 +106,8 @@ joined_least order ns false gates o os f g s n a b j = either_least order ns f g
 
 pub folded_more : (order : Option ℕ) (ns : List NumberedTree) (table : List NodeId) (old : Stored) (both : Bool)
     (os : List Operand) (k : ℕ) (es fs gs : List (Operation × NodeId)) (s t u : Stored) (so_far next r : ℕ) (o : Operand)
-    → Stands os k o → IsFolded order ns table old both os (suc k) es s so_far → Keeps s fs t → IsOperand t next
-    → ((gates : List Gate) → IsTabled order ns gates table s o → IsFamilyOf order ns gates o t next) → Keeps t gs u
+    → Stands os k o → IsFolded order ns table old both os (suc k) es s so_far → KeepsHeld s fs t → IsOperand t next
+    → ((gates : List Gate) → IsTabled order ns gates table s o → IsFamilyOf order ns gates o t next) → KeepsHeld t gs u
     → IsJoined order both (family t next) (family t so_far) u r → IsFolded order ns table old both os k gs u r
 folded_more order ns table old both os k es fs gs s t u so_far next r o st f ks on made ku j = record {
   within = let w = f.within in omega (arith, w);
@@ -137,7 +137,7 @@ folded_all order ns table old both os left es s n z f gates each = record {
 pub record IsMaking (order : Option ℕ) (ns : List NumberedTree) (gates : List Gate) (marks : List Bool) (k : ℕ)
     (table : List NodeId) (s : Stored) : Type 0 where
   pub long : length table ≡ k
-  pub numbers : AreTabled table s
+  pub numbers : AreTabledOperands table s
   pub made : (g : ℕ) (n : NodeId) → Stands table g n → Stands marks g true
       → IsFamilyOf order ns gates (GateIs g true) s n.n
 
@@ -150,7 +150,7 @@ making_begins order ns gates marks s = record {
 }
 
 module _ (order : Option ℕ) (ns : List NumberedTree) (gates : List Gate) (root : Operand) (marks : List Bool)
-    (ordered : AreOrdered gates) (root_in : IsBelow (length gates) root) (m : AreMarks gates root marks) where
+    (ordered : AreOrdered gates) (root_in : IsBelow (length gates) root) (m : AreConeMarks gates root marks) where
   pub gate_tabled : (k : ℕ) (gate : Gate) (table : List NodeId) (s : Stored) → Stands gates k gate
       → Stands marks k true → IsMaking order ns gates marks k table s → EachTabled order ns gates table s gate.operands
   gate_tabled k gate table s st mk d = record {
@@ -250,7 +250,7 @@ gates_more gates marks k gate st p a = record {
 }
 
 pub gates_all : (gates : List Gate) (root : Operand) (marks : List Bool) (k : ℕ) → length gates ≤ k
-    → AreMarks gates root marks → IsPlain root → AreGatesPlain gates marks k → IsCoherent gates root
+    → AreConeMarks gates root marks → IsPlain root → AreGatesPlain gates marks k → IsCoherent gates root
 gates_all gates root marks k h m p a = record {
   own = p;
   operands = λ g gate c st.

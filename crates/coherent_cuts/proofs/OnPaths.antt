@@ -10,7 +10,7 @@ use Rattle.diagram_steps.specs.declared.trees.NumberedEdge.{NumberedEdge}
 use Rattle.diagram_steps.specs.declared.trees.NumberedTree.{NumberedTree}
 use Rattle.diagram_steps.specs.Trees.{edges_of}
 use Rattle.diagram_steps.proofs.TreeOrder.{stands_is}
-use Rattle.mode_diagrams.specs.Trees.{IsOnPath, last, earlier, IsNumbered, AreNumbered, AreApart, IsSetFrom}
+use Rattle.mode_diagrams.specs.Trees.{IsOnPath, last, earlier, IsNumberedTree, AreNumbered, AreApart, IsSetFrom}
 use Rattle.mode_diagrams.specs.Costs.{HasDifferentEvents, HaveDifferentEvents}
 use Rattle.coherent_cuts.specs.Exclusive.{HasExclusivePair}
 use Rattle.coherent_cuts.specs.Gates.{IsWithPathOf, HasPaths}
@@ -33,7 +33,7 @@ pub record IsPlaceOn (edges : List NumberedEdge) (x n : ℕ) : Type 0 where
   pub below : at < n
   pub path : (y : ℕ) → IsOnPath edges y (suc at) → IsOnPath edges y n
 
-module _ (tree : NumberedTree) (numbered : IsNumbered tree) where
+module _ (tree : NumberedTree) (numbered : IsNumberedTree tree) where
   pub place_on : (x n : ℕ) → IsOnPath (edges_of tree) x n → IsPlaceOn (edges_of tree) x n
   place_on x n (last {m = m} {edge = edge} q st is) = record {
     at = m;

@@ -11,13 +11,13 @@ use Rattle.zdd_families.proofs.Members.{has-union, holds_law, within_law}
 use Rattle.diagram_steps.specs.declared.trees.NumberedEdge.{NumberedEdge}
 use Rattle.diagram_steps.specs.declared.trees.NumberedTree.{NumberedTree}
 use Rattle.diagram_steps.specs.Trees.{edges_of}
-use Rattle.zdd_nodes.specs.Nodes.{Stored, family, IsNumber}
+use Rattle.zdd_nodes.specs.Nodes.{Stored, family, IsFamilyNumber}
 use Rattle.diagram_steps.specs.Putting.{put_in, HasWith, Extends}
 use Rattle.mode_diagrams.specs.Trees.{IsOnPath, last, earlier}
 use Rattle.mode_diagrams.proofs.Pathing.{put_members, put_event, put_kept}
 use Rattle.least_families.specs.Least.{covers}
 use Rattle.least_families.proofs.Covering.{covers_from, covered}
-use Rattle.coherent_cuts.specs.Exclusive.{HasPair, HasExclusivePair, HasExclusive, AddsPairsOf, AddsPairs}
+use Rattle.coherent_cuts.specs.Exclusive.{HasEdgePair, HasExclusivePair, HasExclusive, AddsPairsOf, AddsPairs}
 
 -- ---- one more pair
 or_right : (b : Bool) → (b || true) ≡ true
@@ -78,9 +78,9 @@ covers_pair a b one pair is w s = alike _ _ there back
 
 -- ---- the pairs of one edge: those of the later edges from place k on are in
 pub record AddsFrom (edges : List NumberedEdge) (first k : ℕ) (f g : Family) : Type 0 where
-  pub sound : (s : List ℕ) → covers g s ≡ true → (covers f s ≡ true) ⊎ ((second : ℕ) × HasPair edges first second s)
+  pub sound : (s : List ℕ) → covers g s ≡ true → (covers f s ≡ true) ⊎ ((second : ℕ) × HasEdgePair edges first second s)
   pub kept : (s : List ℕ) → covers f s ≡ true → covers g s ≡ true
-  pub whole : (s : List ℕ) (second : ℕ) → k ≤ second → HasPair edges first second s → covers g s ≡ true
+  pub whole : (s : List ℕ) (second : ℕ) → k ≤ second → HasEdgePair edges first second s → covers g s ≡ true
 
 pub adds_none : (edges : List NumberedEdge) (first k : ℕ) (f : Family) → length edges ≤ k → AddsFrom edges first k f f
 adds_none edges first k f h = record {
@@ -151,9 +151,9 @@ adds_all edges first k f g h r = record {
 -- ---- the pairs of one tree: those of the edges from place k on are in
 pub record AddsTreeFrom (edges : List NumberedEdge) (k : ℕ) (f g : Family) : Type 0 where
   pub sound : (s : List ℕ) → covers g s ≡ true
-      → (covers f s ≡ true) ⊎ ((first second : ℕ) × HasPair edges first second s)
+      → (covers f s ≡ true) ⊎ ((first second : ℕ) × HasEdgePair edges first second s)
   pub kept : (s : List ℕ) → covers f s ≡ true → covers g s ≡ true
-  pub whole : (s : List ℕ) (first second : ℕ) → k ≤ first → HasPair edges first second s → covers g s ≡ true
+  pub whole : (s : List ℕ) (first second : ℕ) → k ≤ first → HasEdgePair edges first second s → covers g s ≡ true
 
 pub tree_none : (edges : List NumberedEdge) (k : ℕ) (f : Family) → length edges ≤ k → AddsTreeFrom edges k f f
 tree_none edges k f h = record {
@@ -169,7 +169,7 @@ tree_more edges k f g h r a = record {
   sound = λ s c. ⊎_elim (λ x. r.sound s x) (λ x. inr (k, x.0, x.1)) (a.sound s c);
   kept = λ s c. a.kept s (r.kept s c);
   whole = λ s first second l p. ⊎_elim
-      (λ (q : first ≡ k). a.whole s second (subst (λ z. HasPair edges z second s) q p))
+      (λ (q : first ≡ k). a.whole s second (subst (λ z. HasEdgePair edges z second s) q p))
       (λ q. a.kept s (r.whole s first second (let x : suc k ≤ first = grind (arith, l, q) in x) p))
       (cases_eq first k);
 }
@@ -202,7 +202,7 @@ all_more ns k tree g h st r a = record {
   whole = λ s p l. ⊎_elim
       (λ (q : p.place ≡ k).
       let same = stands_one ns k p.tree tree (subst (λ z. Stands ns z p.tree) q p.stands) st in
-      a.whole s p.first p.second (subst (λ (t : NumberedTree). HasPair (edges_of t) p.first p.second s) same p.pair))
+      a.whole s p.first p.second (subst (λ (t : NumberedTree). HasEdgePair (edges_of t) p.first p.second s) same p.pair))
       (λ q. a.kept s (r.whole s p (let x : suc k ≤ p.place = grind (arith, l, q) in x)))
       (cases_eq p.place k);
 }
@@ -232,17 +232,17 @@ pub record PairsOf (edges : List NumberedEdge) (first second : ℕ) (old : Store
     : Type 0 where
   pub within : second ≤ length edges
   pub grows : Extends old s
-  pub in_store : IsNumber s n
+  pub in_store : IsFamilyNumber s n
   pub adds : AddsFrom edges first second (family old pairs) (family s n)
 
 pub record PairsOfTree (edges : List NumberedEdge) (first : ℕ) (old : Stored) (pairs : ℕ) (s : Stored) (n : ℕ) : Type 0 where
   pub within : first ≤ length edges
   pub grows : Extends old s
-  pub in_store : IsNumber s n
+  pub in_store : IsFamilyNumber s n
   pub adds : AddsTreeFrom edges first (family old pairs) (family s n)
 
 pub record PairsOfTrees (ns : List NumberedTree) (left : ℕ) (old s : Stored) (n : ℕ) : Type 0 where
   pub within : left ≤ length ns
   pub grows : Extends old s
-  pub in_store : IsNumber s n
+  pub in_store : IsFamilyNumber s n
   pub adds : AddsAllFrom ns left (family s n)

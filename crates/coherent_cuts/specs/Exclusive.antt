@@ -10,7 +10,7 @@ use Rattle.least_families.specs.Least.{covers}
 
 -- the set has the events of two of the edges, this and a later one, and the path to the mode that the later one enters goes
 -- without the event of this
-pub record HasPair (edges : List NumberedEdge) (first second : ℕ) (set : List ℕ) : Type 0 where
+pub record HasEdgePair (edges : List NumberedEdge) (first second : ℕ) (set : List ℕ) : Type 0 where
   pub before : first < second
   pub one : NumberedEdge
   pub other : NumberedEdge
@@ -27,7 +27,7 @@ pub record HasExclusivePair (trees : List NumberedTree) (set : List ℕ) : Type 
   pub stands : Stands trees place tree
   pub first : ℕ
   pub second : ℕ
-  pub pair : HasPair (edges_of tree) first second set
+  pub pair : HasEdgePair (edges_of tree) first second set
 
 -- a set of the family lies within exactly those sets that have two events on no one path
 pub record HasExclusive (trees : List NumberedTree) (f : Family) : Type 0 where
@@ -35,13 +35,13 @@ pub record HasExclusive (trees : List NumberedTree) (f : Family) : Type 0 where
 
 -- g covers what f covers, and the sets with a pair of this edge's event and that of a later edge
 pub record AddsPairsOf (edges : List NumberedEdge) (first : ℕ) (f g : Family) : Type 0 where
-  pub sound : (s : List ℕ) → covers g s ≡ true → (covers f s ≡ true) ⊎ ((second : ℕ) × HasPair edges first second s)
+  pub sound : (s : List ℕ) → covers g s ≡ true → (covers f s ≡ true) ⊎ ((second : ℕ) × HasEdgePair edges first second s)
   pub kept : (s : List ℕ) → covers f s ≡ true → covers g s ≡ true
-  pub whole : (s : List ℕ) (second : ℕ) → HasPair edges first second s → covers g s ≡ true
+  pub whole : (s : List ℕ) (second : ℕ) → HasEdgePair edges first second s → covers g s ≡ true
 
 -- the same of the pairs of any two edges
 pub record AddsPairs (edges : List NumberedEdge) (f g : Family) : Type 0 where
   pub sound : (s : List ℕ) → covers g s ≡ true
-      → (covers f s ≡ true) ⊎ ((first second : ℕ) × HasPair edges first second s)
+      → (covers f s ≡ true) ⊎ ((first second : ℕ) × HasEdgePair edges first second s)
   pub kept : (s : List ℕ) → covers f s ≡ true → covers g s ≡ true
-  pub whole : (s : List ℕ) (first second : ℕ) → HasPair edges first second s → covers g s ≡ true
+  pub whole : (s : List ℕ) (first second : ℕ) → HasEdgePair edges first second s → covers g s ≡ true

@@ -3,7 +3,7 @@ use Rattle.std.specs.Prelude.{◌≡◌, ◌&&◌, ◌||◌, ℕ, suc, Bool, tru
 use Rattle.ar_base.specs.Lists.{Stands, IsOneOf}
 use Rattle.ar_firing.specs.CutsInside.{UpTo}
 use Rattle.zdd_families.specs.Families.{Family}
-use Rattle.zdd_nodes.specs.Nodes.{NodeId, Stored, family, IsNumber, IsSoundStore}
+use Rattle.zdd_nodes.specs.Nodes.{NodeId, Stored, family, IsFamilyNumber, IsSoundStore}
 use Rattle.eq_core.specs.Gates.{Operand, GateIs, Gate}
 use Rattle.eq_core.specs.Values.{value_at, joint_at, values_at}
 use Rattle.diagram_steps.specs.declared.trees.NumberedEdge.{NumberedEdge}
@@ -39,13 +39,13 @@ HasPathsUpTo order trees set = HasPaths trees set × UpTo order set
 -- n is the number of the family of the least such sets at which the operand is true
 pub record IsFamilyOf (order : Option ℕ) (trees : List NumberedTree) (gates : List Gate) (o : Operand) (s : Stored) (n : ℕ)
     : Type 0 where
-  pub in_store : IsNumber s n
+  pub in_store : IsFamilyNumber s n
   pub least : AreLeast (HasPathsUpTo order trees) (value_at gates o) (family s n)
 
 -- the same of a joint of operands
 pub record IsFamilyOfJoint (order : Option ℕ) (trees : List NumberedTree) (gates : List Gate) (both : Bool)
     (os : List Operand) (s : Stored) (n : ℕ) : Type 0 where
-  pub in_store : IsNumber s n
+  pub in_store : IsFamilyNumber s n
   pub least : AreLeast (HasPathsUpTo order trees) (λ set. joint_at both set (values_at set gates) os) (family s n)
 
 -- n is the number of the least sets of both families together, of at most as many events as are asked for, or of either
@@ -54,7 +54,7 @@ IsJoined order true f g s n = IsLeastOf order (λ x. covers f x && covers g x) s
 IsJoined order false f g s n = IsLeastOf None (λ x. covers f x || covers g x) s n
 
 -- the table has numbers of families of which no set lies within another
-pub record AreTabled (table : List NodeId) (s : Stored) : Type 0 where
+pub record AreTabledOperands (table : List NodeId) (s : Stored) : Type 0 where
   pub each : (g : ℕ) (n : NodeId) → Stands table g n → IsOperand s n.n
 
 -- the table has the family of the gate that the operand names
@@ -73,6 +73,6 @@ pub record EachTabled (order : Option ℕ) (trees : List NumberedTree) (gates : 
 pub record HasLeastFirable (order : Option ℕ) (trees : List NumberedTree) (gates : List Gate) (o : Operand) (l : Listed)
     : Type 0 where
   pub sound : IsSoundStore l.store
-  pub in_store : IsNumber l.store l.root.n
+  pub in_store : IsFamilyNumber l.store l.root.n
   pub are : (forest : List ModeTree) → IsByModes forest trees
       → ListsLeastUpTo order forest (value_at gates o) (family l.store l.root.n)

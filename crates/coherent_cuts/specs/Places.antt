@@ -5,7 +5,7 @@ use Rattle.ar_base.specs.Lists.{Stands, IsOneOf}
 use Rattle.ar_base.specs.NumbersInside.{EventId}
 use Rattle.diagram_steps.specs.declared.trees.NumberedEdge.{NumberedEdge}
 use Rattle.diagram_steps.specs.declared.trees.NumberedTree.{NumberedTree}
-use Rattle.diagram_steps.specs.Trees.{edges_of, HasEvent}
+use Rattle.diagram_steps.specs.Trees.{edges_of, TreeHasEvent}
 use Rattle.mode_diagrams.specs.Lacking.{same_event}
 use Rattle.coherent_cuts.specs.declared.paths.EdgePlace.{EdgePlace}
 
@@ -30,7 +30,7 @@ pub record ArePlaced {S : Type 0} (trees : List NumberedTree) (count : ℕ) (pla
     : Type 0 where
   pub sound : (e : EventId) (p : EdgePlace) → place_of places e ≡ Some p
       → (tree : NumberedTree) × Stands trees p.tree tree × Enters (edges_of tree) e.n p.mode
-  pub whole : (k : ℕ) (tree : NumberedTree) (e : EventId) → k < count → Stands trees k tree → HasEvent tree e.n
+  pub whole : (k : ℕ) (tree : NumberedTree) (e : EventId) → k < count → Stands trees k tree → TreeHasEvent tree e.n
       → IsPut places e
 
 -- places are put for the events of these edges of a tree, and nothing else changed

@@ -11,17 +11,6 @@ use eq_core::{Gate, Operand};
 use gate_cones::cone;
 use std::alloc::Global;
 
-// Whether the operand has no sign.
-fn is_plain(operand: Operand) -> bool
-    ensures { (result ≡ true) ↔ IsPlain (operand_of operand) }
-{
-    match operand {
-        Operand::Always | Operand::Never => true,
-        Operand::Event(_, sign) => sign,
-        Operand::Gate(_, sign) => sign,
-    }
-}
-
 /// Whether neither the operand nor an operand of a gate that it rests on is negated. Then more events never make it false. The
 /// error is want of memory.
 pub fn is_coherent(alloc: Global, gates: &[Gate], root: Operand) -> Result<bool, Memory>
@@ -39,6 +28,17 @@ pub fn is_coherent(alloc: Global, gates: &[Gate], root: Operand) -> Result<bool,
         }
     }
     Ok(true)
+}
+
+// Whether the operand has no sign.
+fn is_plain(operand: Operand) -> bool
+    ensures { (result ≡ true) ↔ IsPlain (operand_of operand) }
+{
+    match operand {
+        Operand::Always | Operand::Never => true,
+        Operand::Event(_, sign) => sign,
+        Operand::Gate(_, sign) => sign,
+    }
 }
 
 // Whether none of the operands has a sign.

@@ -9,11 +9,11 @@ ghost use Rattle.eq_core.specs.Views.{all_needed, gate_of, operand_of};
 ghost use Rattle.mode_diagrams.specs.Trees.{AreNumbered, AreApart};
 ghost use Rattle.mode_diagrams.specs.Costs.{HaveDifferentEvents};
 ghost use Rattle.mode_diagrams.specs.Numbers.{HasFewEdges};
-ghost use Rattle.least_families.specs.Held.{IsSound};
-ghost use Rattle.least_families.specs.Kept.{Keeps, IsOperand};
+ghost use Rattle.least_families.specs.Held.{AreLeastHeld};
+ghost use Rattle.least_families.specs.Kept.{KeepsHeld, IsOperand};
 ghost use Rattle.coherent_cuts.specs.Places.{ArePlaced};
 ghost use Rattle.coherent_cuts.specs.Coherent.{ArePlain, IsCoherent};
-ghost use Rattle.coherent_cuts.specs.Gates.{IsFamilyOfJoint, AreTabled, EachTabled, HasLeastFirable};
+ghost use Rattle.coherent_cuts.specs.Gates.{IsFamilyOfJoint, AreTabledOperands, EachTabled, HasLeastFirable};
 
 use crate::exclusive::exclusive_pairs;
 use crate::gates::{gate_family, operand_family};
@@ -91,11 +91,11 @@ fn marked_family(
     requires apart { AreApart trees.now }
     requires different { HaveDifferentEvents trees.now }
     requires placed { ArePlaced trees.now (length trees.now) places.now }
-    requires held { IsSound memo.old ops.old.families }
-    requires table { AreTabled table.now ops.old }
+    requires held { AreLeastHeld memo.old ops.old.families }
+    requires table { AreTabledOperands table.now ops.old }
     requires below { AreBelow (length table.now) (map operand_of gate.now.operands.items) }
     requires plain { marked ≡ true → ArePlain (map operand_of gate.now.operands.items) }
-    ensures kept { Keeps ops.old memo.new ops.new }
+    ensures kept { KeepsHeld ops.old memo.new ops.new }
     ensures operand { IfOk result (λ n. IsOperand ops.new n.n) }
     ensures family { IfOk result (λ n. marked ≡ true → (gates : List GateOf)
         → EachTabled order trees.now gates table.now ops.old (map operand_of gate.now.operands.items)

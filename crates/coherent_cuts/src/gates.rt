@@ -8,11 +8,11 @@ ghost use Rattle.eq_core.specs.ValuesInside.{IsBelow};
 ghost use Rattle.eq_core.specs.Views.{all_needed, operand_of};
 ghost use Rattle.mode_diagrams.specs.Trees.{AreNumbered, AreApart};
 ghost use Rattle.mode_diagrams.specs.Costs.{HaveDifferentEvents};
-ghost use Rattle.least_families.specs.Held.{IsSound};
-ghost use Rattle.least_families.specs.Kept.{Keeps, IsOperand};
+ghost use Rattle.least_families.specs.Held.{AreLeastHeld};
+ghost use Rattle.least_families.specs.Kept.{KeepsHeld, IsOperand};
 ghost use Rattle.coherent_cuts.specs.Places.{ArePlaced};
 ghost use Rattle.coherent_cuts.specs.Coherent.{IsPlain, ArePlain};
-ghost use Rattle.coherent_cuts.specs.Gates.{IsFamilyOf, IsFamilyOfJoint, IsJoined, AreTabled, IsTabled, EachTabled};
+ghost use Rattle.coherent_cuts.specs.Gates.{IsFamilyOf, IsFamilyOfJoint, IsJoined, AreTabledOperands, IsTabled, EachTabled};
 
 use crate::paths::{EdgePlaces, path_to};
 use ar_base::EventId;
@@ -21,33 +21,6 @@ use eq_core::{Gate, Joint, Operand};
 use least_families::{Memo, least_up_to, product_least, union_least};
 use zdd_nodes::{NodeFault, NodeId};
 use zdd_ops::Ops;
-
-// The family of an event: the events on the path to it, where these are at most as many as are asked for. No set has an event
-// that no tree has.
-fn event_family(
-    ops: &mut Ops,
-    memo: &mut Memo,
-    trees: &[NumberedTree],
-    places: &EdgePlaces,
-    event: EventId,
-    order: Option<u32>,
-) -> Result<NodeId, NodeFault>
-    requires numbered { AreNumbered trees.now }
-    requires apart { AreApart trees.now }
-    requires different { HaveDifferentEvents trees.now }
-    requires placed { ArePlaced trees.now (length trees.now) places.now }
-    requires held { IsSound memo.old ops.old.families }
-    ensures kept { Keeps ops.old memo.new ops.new }
-    ensures operand { IfOk result (λ n. IsOperand ops.new n.n) }
-    ensures family { IfOk result (λ n. (gates : List GateOf)
-        → IsFamilyOf order trees.now gates (EventIs event.n true) ops.new n.n) }
-{
-    let Some(place) = places.get(&event).copied() else {
-        return Ok(NodeId::new(0));
-    };
-    let path = path_to(ops, &trees[place.tree as usize], place.mode)?;
-    least_up_to(ops, memo, path, order)
-}
 
 /// The family of an operand without a sign, where the table has the families of the gates that it may name.
 pub(crate) fn operand_family(
@@ -63,11 +36,11 @@ pub(crate) fn operand_family(
     requires apart { AreApart trees.now }
     requires different { HaveDifferentEvents trees.now }
     requires placed { ArePlaced trees.now (length trees.now) places.now }
-    requires held { IsSound memo.old ops.old.families }
-    requires table { AreTabled table.now ops.old }
+    requires held { AreLeastHeld memo.old ops.old.families }
+    requires table { AreTabledOperands table.now ops.old }
     requires below { IsBelow (length table.now) (operand_of operand) }
     requires plain { IsPlain (operand_of operand) }
-    ensures kept { Keeps ops.old memo.new ops.new }
+    ensures kept { KeepsHeld ops.old memo.new ops.new }
     ensures operand { IfOk result (λ n. IsOperand ops.new n.n) }
     ensures family { IfOk result (λ n. (gates : List GateOf)
         → IsTabled order trees.now gates table.now ops.old (operand_of operand)
@@ -81,6 +54,33 @@ pub(crate) fn operand_family(
     }
 }
 
+// The family of an event: the events on the path to it, where these are at most as many as are asked for. No set has an event
+// that no tree has.
+fn event_family(
+    ops: &mut Ops,
+    memo: &mut Memo,
+    trees: &[NumberedTree],
+    places: &EdgePlaces,
+    event: EventId,
+    order: Option<u32>,
+) -> Result<NodeId, NodeFault>
+    requires numbered { AreNumbered trees.now }
+    requires apart { AreApart trees.now }
+    requires different { HaveDifferentEvents trees.now }
+    requires placed { ArePlaced trees.now (length trees.now) places.now }
+    requires held { AreLeastHeld memo.old ops.old.families }
+    ensures kept { KeepsHeld ops.old memo.new ops.new }
+    ensures operand { IfOk result (λ n. IsOperand ops.new n.n) }
+    ensures family { IfOk result (λ n. (gates : List GateOf)
+        → IsFamilyOf order trees.now gates (EventIs event.n true) ops.new n.n) }
+{
+    let Some(place) = places.get(&event).copied() else {
+        return Ok(NodeId::new(0));
+    };
+    let path = path_to(ops, &trees[place.tree as usize], place.mode)?;
+    least_up_to(ops, memo, path, order)
+}
+
 // The least sets of both families together, or of either.
 fn joined(
     ops: &mut Ops,
@@ -92,8 +92,8 @@ fn joined(
 ) -> Result<NodeId, NodeFault>
     requires first { IsOperand ops.old f.n }
     requires second { IsOperand ops.old g.n }
-    requires held { IsSound memo.old ops.old.families }
-    ensures kept { Keeps ops.old memo.new ops.new }
+    requires held { AreLeastHeld memo.old ops.old.families }
+    ensures kept { KeepsHeld ops.old memo.new ops.new }
     ensures joined { IfOk result (λ n. IsJoined order (all_needed joint) (family ops.old f.n)
         (family ops.old g.n) ops.new n.n) }
 {
@@ -117,11 +117,11 @@ pub(crate) fn gate_family(
     requires apart { AreApart trees.now }
     requires different { HaveDifferentEvents trees.now }
     requires placed { ArePlaced trees.now (length trees.now) places.now }
-    requires held { IsSound memo.old ops.old.families }
-    requires table { AreTabled table.now ops.old }
+    requires held { AreLeastHeld memo.old ops.old.families }
+    requires table { AreTabledOperands table.now ops.old }
     requires below { AreBelow (length table.now) (map operand_of gate.now.operands.items) }
     requires plain { ArePlain (map operand_of gate.now.operands.items) }
-    ensures kept { Keeps ops.old memo.new ops.new }
+    ensures kept { KeepsHeld ops.old memo.new ops.new }
     ensures operand { IfOk result (λ n. IsOperand ops.new n.n) }
     ensures family { IfOk result (λ n. (gates : List GateOf)
         → EachTabled order trees.now gates table.now ops.old (map operand_of gate.now.operands.items)

@@ -2,11 +2,11 @@
 
 ghost use Rattle.std.specs.Prelude.{◌≡◌, ◌≤◌, ◌∷◌, [], IfOk, OnOk, length};
 ghost use Rattle.std.specs.List.{All};
-ghost use Rattle.zdd_nodes.specs.Nodes.{family, IsNumber};
+ghost use Rattle.zdd_nodes.specs.Nodes.{family, IsFamilyNumber};
 ghost use Rattle.diagram_steps.specs.Trees.{edges_of};
 ghost use Rattle.diagram_steps.specs.Putting.{Extends};
-ghost use Rattle.mode_diagrams.specs.Trees.{IsNumbered};
-ghost use Rattle.mode_diagrams.specs.Sets.{HasPath};
+ghost use Rattle.mode_diagrams.specs.Trees.{IsNumberedTree};
+ghost use Rattle.mode_diagrams.specs.Sets.{HasPathEvents};
 ghost use Rattle.mode_diagrams.specs.Numbers.{HasFewEdges};
 ghost use Rattle.coherent_cuts.specs.Places.{ArePlaced, Puts};
 
@@ -56,11 +56,11 @@ fn put_all(places: &mut EdgePlaces, edges: &[NumberedEdge], tree: u32) -> Result
 
 /// The family of one set: the events on the path to the mode.
 pub(crate) fn path_to(ops: &mut Ops, tree: &NumberedTree, mode: u32) -> Result<NodeId, NodeFault>
-    requires numbered { IsNumbered tree.now }
+    requires numbered { IsNumberedTree tree.now }
     requires mode { mode ≤ length (edges_of tree.now) }
     ensures grows { Extends ops.old ops.new }
-    ensures in_store { IfOk result (λ n. IsNumber ops.new n.n) }
-    ensures path { IfOk result (λ n. HasPath (edges_of tree.now) mode ([] ∷ []) (family ops.new n.n)) }
+    ensures in_store { IfOk result (λ n. IsFamilyNumber ops.new n.n) }
+    ensures path { IfOk result (λ n. HasPathEvents (edges_of tree.now) mode ([] ∷ []) (family ops.new n.n)) }
 {
     if mode == 0 {
         return Ok(NodeId::new(1));

@@ -5,7 +5,7 @@ use Rattle.std.proofs.lemmas.Bool.{cases_eq, cases_lt}
 use Rattle.std.proofs.lemmas.Nat.Bits.{bit_at_above, bit_at_set_same, bit_at_set_other}
 use Rattle.ar_meaning.specs.Found.{IsAnswer}
 use Rattle.flow_blocks.specs.Bits.{IsSet}
-use Rattle.lane_rows.specs.Rows.{Covers}
+use Rattle.lane_rows.specs.Rows.{CoversBits}
 
 -- one bit of a word
 module _ (row : List ℕ) (number : ℕ) (lt : number / 64 < length row) where
@@ -59,7 +59,7 @@ word_bit row k i n d m = ap (λ (j : ℕ). bit_at (slice_index row j) (n % 64)) 
 
 -- rows cover each other by their bits
 pub covers_from : (big small : List ℕ) → ((k : ℕ) → slice_index small k < 2 ^ 64)
-    → ((n : ℕ) → IsSet small n → IsSet big n) → Covers big small
+    → ((n : ℕ) → IsSet small n → IsSet big n) → CoversBits big small
 covers_from big small fits h k i is = elim (cases_lt i 64) [
   | inl low ↦
       let d : (64 * k + i) / 64 ≡ k = omega arith in
@@ -69,7 +69,7 @@ covers_from big small fits h k i is = elim (cases_lt i 64) [
 ]
 
 pub within_answer : (big small : List ℕ) (b : Bool) → ((k : ℕ) → slice_index small k < 2 ^ 64)
-    → (IsTrue b ↔ Covers big small)
+    → (IsTrue b ↔ CoversBits big small)
     → IsAnswer b ((n : ℕ) → IsSet small n → IsSet big n)
 within_answer big small true fits e = λ n is. e.0 refl (n / 64) (n % 64) is
 within_answer big small false fits e = λ h. let z : false ≡ true = e.1 (covers_from big small fits h) in cc

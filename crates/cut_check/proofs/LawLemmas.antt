@@ -7,7 +7,7 @@ use Rattle.ar_base.specs.Lists.{Stands, IsOneOf}
 use Rattle.ar_base.specs.Sets.{Within}
 use Rattle.ar_base.proofs.Standing.{stands_one, stands_within, stands_get, one_here, one_none, one_cases, one_first, one_rest}
 use Rattle.domains.specs.declared.Value.{Value}
-use Rattle.typed_expr.specs.PairsInside.{turned}
+use Rattle.typed_expr.specs.PairsInside.{turned_pairs}
 use Rattle.typed_expr.specs.declared.expr.Expr.{Expr}
 use Rattle.typed_expr.proofs.Renaming.{carries, renames_turned}
 use Rattle.ar_meaning.specs.Systems.{System}
@@ -46,7 +46,7 @@ module _ {V W : Type 0} (same : V → W → Type 0) (here : System V) (there : S
     (observer : Expr V) (other : Expr W) (q : Expr_renames same observer other) (wanted : Value) where
   pub line_back : (ls : List Label) → IsTrueLine there dropped other wanted ls
       → IsTrueLine here dropped observer wanted ls
-  line_back ls h = line_there (turned same) there here (image_turned same image) dropped other observer
+  line_back ls h = line_there (turned_pairs same) there here (image_turned same image) dropped other observer
       (record { renames = renames_turned same q.renames }) wanted ls h
 
   pub said_there : (lines : List (List Label)) (n : ℕ) (said : Said) → IsSaid here dropped observer wanted lines n said

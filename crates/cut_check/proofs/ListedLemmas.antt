@@ -9,33 +9,33 @@ use Rattle.ar_base.proofs.Standing.{one_here, stands_map, one_none, one_split, o
 use Rattle.ar_meaning.specs.Runs.{Label}
 use Rattle.gts_core.specs.declared.bound.Chain.{Chain}
 use Rattle.gts_core.specs.declared.system.GtsParts.{GtsParts}
-use Rattle.job_inputs.specs.Chains.{labels_of}
-use Rattle.text_pieces.specs.WayLabels.{label_of}
-use Rattle.cut_check.specs.Flat.{chain_lines, numbers_of}
+use Rattle.job_inputs.specs.Chains.{chain_labels}
+use Rattle.text_pieces.specs.WayLabels.{numbered_label}
+use Rattle.cut_check.specs.Flat.{chain_lines, flat_event_numbers}
 use Rattle.cut_check.specs.Verdicts.{events_of, IsListed}
 
 -- one item more, by images
 pub numbers_more : (cut : List EventId) (i : ℕ) (d : EventId) → i < length cut
-    → numbers_of (take (i + 1) cut) ≡ numbers_of (take i cut) ++ (get_or cut i d).n ∷ []
-numbers_more cut i d lt = ap numbers_of (take_more cut i d lt)
+    → flat_event_numbers (take (i + 1) cut) ≡ flat_event_numbers (take i cut) ++ (get_or cut i d).n ∷ []
+numbers_more cut i d lt = ap flat_event_numbers (take_more cut i d lt)
     ∙ map-append (λ (e : EventId). e.n) (take i cut) (get_or cut i d ∷ [])
 
 pub labels_more : (p : GtsParts) (ways : List WayId) (i : ℕ) (d : WayId) → i < length ways
-    → labels_of p (take (i + 1) ways) ≡ labels_of p (take i ways) ++ label_of p (get_or ways i d).n ∷ []
-labels_more p ways i d lt = ap (labels_of p) (take_more ways i d lt)
-    ∙ map-append (λ (w : WayId). label_of p w.n) (take i ways) (get_or ways i d ∷ [])
+    → chain_labels p (take (i + 1) ways) ≡ chain_labels p (take i ways) ++ numbered_label p (get_or ways i d).n ∷ []
+labels_more p ways i d lt = ap (chain_labels p) (take_more ways i d lt)
+    ∙ map-append (λ (w : WayId). numbered_label p w.n) (take i ways) (get_or ways i d ∷ [])
 
 pub events_more : (p : GtsParts) (ways : List WayId) (i : ℕ) (d : WayId) → i < length ways
-    → events_of (labels_of p (take (i + 1) ways))
-    ≡ events_of (labels_of p (take i ways)) ++ (label_of p (get_or ways i d).n).event ∷ []
+    → events_of (chain_labels p (take (i + 1) ways))
+    ≡ events_of (chain_labels p (take i ways)) ++ (numbered_label p (get_or ways i d).n).event ∷ []
 events_more p ways i d lt = ap events_of (labels_more p ways i d lt)
-    ∙ map-append (λ (l : Label). l.event) (labels_of p (take i ways)) (label_of p (get_or ways i d).n ∷ [])
+    ∙ map-append (λ (l : Label). l.event) (chain_labels p (take i ways)) (numbered_label p (get_or ways i d).n ∷ [])
 
 pub lines_more : (p : GtsParts) (chains : List Chain) (i : ℕ) (d : Chain) → i < length chains
     → chain_lines p (take (i + 1) chains)
-    ≡ chain_lines p (take i chains) ++ labels_of p (get_or chains i d).ways.items ∷ []
+    ≡ chain_lines p (take i chains) ++ chain_labels p (get_or chains i d).ways.items ∷ []
 lines_more p chains i d lt = ap (chain_lines p) (take_more chains i d lt)
-    ∙ map-append (λ (c : Chain). labels_of p c.ways.items) (take i chains) (get_or chains i d ∷ [])
+    ∙ map-append (λ (c : Chain). chain_labels p c.ways.items) (take i chains) (get_or chains i d ∷ [])
 
 -- a number that is not among more numbers
 pub not_more : (old new : List ℕ) (last e : ℕ) → new ≡ old ++ last ∷ [] → (last ≡ e → ⊥) → (IsOneOf old e → ⊥)
@@ -89,21 +89,21 @@ module _ (set : List ℕ) where
 
 -- the event of a label of a line
 pub event_there : (p : GtsParts) (ways : List WayId) (i : ℕ) (w : WayId) (e : ℕ) → Stands ways i w
-    → (label_of p w.n).event ≡ e → IsOneOf (events_of (labels_of p ways)) e
+    → (numbered_label p w.n).event ≡ e → IsOneOf (events_of (chain_labels p ways)) e
 event_there p ways i w e s same =
-    subst (λ (z : ℕ). IsOneOf (events_of (labels_of p ways)) z) same
-    (one_here (events_of (labels_of p ways)) i (label_of p w.n).event
-    (stands_map (λ (l : Label). l.event) (labels_of p ways) i (label_of p w.n)
-    (stands_map (λ (v : WayId). label_of p v.n) ways i w s)))
+    subst (λ (z : ℕ). IsOneOf (events_of (chain_labels p ways)) z) same
+    (one_here (events_of (chain_labels p ways)) i (numbered_label p w.n).event
+    (stands_map (λ (l : Label). l.event) (chain_labels p ways) i (numbered_label p w.n)
+    (stands_map (λ (v : WayId). numbered_label p v.n) ways i w s)))
 
 -- a line more that has other events
 pub listed_step : (p q : GtsParts) (chains : List Chain) (i : ℕ) (c : Chain) (ways : List WayId) (set : List ℕ)
     → i < length chains → c ≡ get_or chains i c → q ≡ p → ways ≡ c.ways.items
-    → (Within (events_of (labels_of q ways)) set × Within set (events_of (labels_of q ways)) → ⊥)
+    → (Within (events_of (chain_labels q ways)) set × Within set (events_of (chain_labels q ways)) → ⊥)
     → (IsListed (chain_lines p (take i chains)) set → ⊥) → IsListed (chain_lines p (take (i + 1) chains)) set → ⊥
 listed_step p q chains i c ways set lt is same e other h =
     listed_more set _ _ _ (lines_more p chains i c lt)
-    (subst (λ (z : List WayId). Within (events_of (labels_of p z)) set × Within set (events_of (labels_of p z)) → ⊥)
+    (subst (λ (z : List WayId). Within (events_of (chain_labels p z)) set × Within set (events_of (chain_labels p z)) → ⊥)
     (e ∙ ap (λ (d : Chain). d.ways.items) is)
-    (subst (λ (z : GtsParts). Within (events_of (labels_of z ways)) set × Within set (events_of (labels_of z ways)) → ⊥)
+    (subst (λ (z : GtsParts). Within (events_of (chain_labels z ways)) set × Within set (events_of (chain_labels z ways)) → ⊥)
     same other)) h

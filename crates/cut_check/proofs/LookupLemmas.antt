@@ -7,8 +7,8 @@ use Rattle.ar_base.proofs.Standing.{one_here, one_none, one_split, one_cases, on
 use Rattle.ar_meaning.specs.Runs.{Label}
 use Rattle.flow_blocks.specs.Bits.{IsSet, words_for}
 use Rattle.gts_core.specs.declared.system.GtsParts.{GtsParts}
-use Rattle.cut_check.specs.Flat.{numbers_of}
-use Rattle.cut_check.specs.LineSets.{AreLineSets, AreEventNumbers, HasRoom}
+use Rattle.cut_check.specs.Flat.{flat_event_numbers}
+use Rattle.cut_check.specs.LineSets.{AreLineSets, AreEventNumbers, HasEqualRows}
 use Rattle.cut_check.specs.Rows.{HaveBits}
 use Rattle.cut_check.specs.Verdicts.{events_of, IsListed}
 use Rattle.cut_check.specs.declared.lookup.LineSets.{LineSets}
@@ -19,11 +19,11 @@ use Rattle.cut_check.proofs.ListedLemmas.{numbers_more}
 -- one event more in a row
 pub put_more : (old new : List ℕ) (events : List EventId) (i : ℕ) (d : EventId) → i < length events
     → ((n : ℕ) → IsSet new n ↔ (IsSet old n ⊎ (n ≡ (get_or events i d).n)))
-    → ((n : ℕ) → IsSet old n ↔ IsOneOf (numbers_of (take i events)) n) → (n : ℕ)
-    → IsSet new n ↔ IsOneOf (numbers_of (take (i + 1) events)) n
+    → ((n : ℕ) → IsSet old n ↔ IsOneOf (flat_event_numbers (take i events)) n) → (n : ℕ)
+    → IsSet new n ↔ IsOneOf (flat_event_numbers (take (i + 1) events)) n
 put_more old new events i d lt put is n =
     let x = (get_or events i d).n in
-    let before = numbers_of (take i events) in
+    let before = flat_event_numbers (take i events) in
     let more = numbers_more events i d lt in (
       (λ s. subst (λ (z : List ℕ). IsOneOf z n) (sym more) (elim ((put n).0 s) [
         | inl o ↦ one_left before (x ∷ []) n ((is n).0 o)
@@ -37,11 +37,11 @@ put_more old new events i d lt put is n =
 
 -- one event more that a row has
 pub bits_more : (row : List ℕ) (events : List EventId) (i : ℕ) (d : EventId) → i < length events
-    → IsSet row (get_or events i d).n → ((n : ℕ) → IsOneOf (numbers_of (take i events)) n → IsSet row n) → (n : ℕ)
-    → IsOneOf (numbers_of (take (i + 1) events)) n → IsSet row n
+    → IsSet row (get_or events i d).n → ((n : ℕ) → IsOneOf (flat_event_numbers (take i events)) n → IsSet row n) → (n : ℕ)
+    → IsOneOf (flat_event_numbers (take (i + 1) events)) n → IsSet row n
 bits_more row events i d lt is before n o =
     let x = (get_or events i d).n in
-    elim (one_split (numbers_of (take i events)) (x ∷ []) n
+    elim (one_split (flat_event_numbers (take i events)) (x ∷ []) n
     (subst (λ (z : List ℕ). IsOneOf z n) (numbers_more events i d lt) o)) [
       | inl q ↦ before n q
       | inr q ↦ elim (one_cases x [] n q)
@@ -95,7 +95,7 @@ module _ (lines : List (List Label)) (rows : List Row) (have : HaveBits lines ro
 
 -- there is room for events of the system
 pub has_room : (p : GtsParts) (lines : List (List Label)) (sets : LineSets) (events : List ℕ)
-    → AreLineSets p lines sets → AreEventNumbers p events → HasRoom sets events
+    → AreLineSets p lines sets → AreEventNumbers p events → HasEqualRows sets events
 has_room p lines sets events are inside = record {
   same = λ k r s. are.wide k r s ∙ sym are.room;
   inside = λ e o. let lt = inside.each e o in fits e (length p.events.items) (length sets.asked.items) lt are.room;

@@ -16,19 +16,19 @@ use Rattle.gts_core.specs.declared.system.Event.{Event}
 use Rattle.gts_core.specs.declared.system.GtsParts.{GtsParts}
 use Rattle.gts_core.specs.declared.system.Way.{Way}
 use Rattle.gts_core.proofs.Tests.{and_answer, turned_answer}
-use Rattle.job_inputs.specs.Chains.{labels_of, HaveKnownWays}
+use Rattle.job_inputs.specs.Chains.{chain_labels, HaveKnownWays}
 use Rattle.job_inputs.specs.CutReads.{AreKnownWays}
-use Rattle.text_pieces.specs.WayLabels.{label_of, label_found}
+use Rattle.text_pieces.specs.WayLabels.{numbered_label, way_label_found}
 use Rattle.cut_check.specs.Flat.{chain_lines}
-use Rattle.cut_check.specs.Rows.{IsOpenEvent, AreOpenEvents, AreVisible, IsFit, IsFreshEvent, IsRow, AreRows, HaveBits, AreWide}
+use Rattle.cut_check.specs.Rows.{IsOpenEvent, AreOpenEvents, AreVisible, IsFit, IsFreshEvent, IsRow, AreLineRows, HaveBits, AreWide}
 use Rattle.cut_check.specs.Verdicts.{events_of}
 use Rattle.cut_check.specs.declared.rows.Row.{Row}
 
 -- Ways
 
 -- the event of a way that is read is that of its label
-pub event_read : (p : GtsParts) (n : ℕ) (w : Way) → Stands p.ways.items n w → w.event.n ≡ (label_of p n).event
-event_read p n w s = ap (λ o. (label_found o).event) (sym s)
+pub event_read : (p : GtsParts) (n : ℕ) (w : Way) → Stands p.ways.items n w → w.event.n ≡ (numbered_label p n).event
+event_read p n w s = ap (λ o. (way_label_found o).event) (sym s)
 
 -- and one of the system's
 pub event_inside : (p : GtsParts) (n : ℕ) (w : Way) → IsSound p → Stands p.ways.items n w
@@ -223,15 +223,15 @@ module _ (p : GtsParts) (dropped : List ℕ) where
           is_new = λ s. fit_new ls l f (subst (λ (z : ℕ). IsOneOf (events_of ls) z) e ((is.bits event).0 s));
         }
 
-  pub rows_none : (chains : List Chain) (rows : List Row) → chains ≡ [] → rows ≡ [] → AreRows p dropped chains rows
+  pub rows_none : (chains : List Chain) (rows : List Row) → chains ≡ [] → rows ≡ [] → AreLineRows p dropped chains rows
   rows_none chains rows e f = record {
     long = ap length f ∙ sym (ap length e);
     each = λ k c r s t. absurd (stands_none k c (subst (λ (z : List Chain). Stands z k c) e s));
   }
 
   pub rows_more : (chains more : List Chain) (c : Chain) (old new : List Row) (r : Row) → more ≡ chains ++ c ∷ []
-      → new ≡ old ++ r ∷ [] → AreRows p dropped chains old
-      → IsRow p dropped (labels_of p c.ways.items) r → AreRows p dropped more new
+      → new ≡ old ++ r ∷ [] → AreLineRows p dropped chains old
+      → IsRow p dropped (chain_labels p c.ways.items) r → AreLineRows p dropped more new
   rows_more chains more c old new r e f h is = record {
     long = ap length f ∙ length-append old (r ∷ []) ∙ ap (λ n. n + 1) h.long ∙ sym (length-append chains (c ∷ []))
         ∙ sym (ap length e);
@@ -249,39 +249,39 @@ module _ (p : GtsParts) (dropped : List ℕ) where
   }
     where
       last : (i j : ℕ) (d : Chain) (q : Row) → Stands (c ∷ []) i d → Stands (r ∷ []) j q
-          → IsRow p dropped (labels_of p d.ways.items) q
+          → IsRow p dropped (chain_labels p d.ways.items) q
       last zero zero d q s t =
           let a : c ≡ d = cc in
           let b : r ≡ q = cc in
-          subst (λ (z : Row). IsRow p dropped (labels_of p d.ways.items) z) b
-          (subst (λ (z : Chain). IsRow p dropped (labels_of p z.ways.items) r) a is)
+          subst (λ (z : Row). IsRow p dropped (chain_labels p d.ways.items) z) b
+          (subst (λ (z : Chain). IsRow p dropped (chain_labels p z.ways.items) r) a is)
       last zero (suc j) d q s t = absurd (stands_none j q t)
       last (suc i) j d q s t = absurd (stands_none i d s)
 
   -- Lists of rows
 
-  pub have_bits : (chains : List Chain) (rows : List Row) → AreRows p dropped chains rows
+  pub have_bits : (chains : List Chain) (rows : List Row) → AreLineRows p dropped chains rows
       → HaveBits (chain_lines p chains) rows
   have_bits chains rows h = record {
-    long = h.long ∙ sym (length-map chains (λ (c : Chain). labels_of p c.ways.items));
+    long = h.long ∙ sym (length-map chains (λ (c : Chain). chain_labels p c.ways.items));
     each = λ k ls r s t n.
-        let c = stands_map_back (λ (c : Chain). labels_of p c.ways.items) chains k ls s in
+        let c = stands_map_back (λ (c : Chain). chain_labels p c.ways.items) chains k ls s in
         subst (λ (z : List Label). IsSet r.words.items n ↔ IsOneOf (events_of z) n) c.2 ((h.each k c.0 r c.1 t).bits n);
   }
 
-  pub is_wide : (chains : List Chain) (rows : List Row) → AreRows p dropped chains rows → (k : ℕ) (r : Row)
+  pub is_wide : (chains : List Chain) (rows : List Row) → AreLineRows p dropped chains rows → (k : ℕ) (r : Row)
       → Stands rows k r → length r.words.items ≡ words_for (length p.events.items)
   is_wide chains rows h k r s =
       let c = stands_some chains k (let w = stands_within rows k r s in omega (arith, w, h.long)) in
       (h.each k c.0 r c.1 s).long
 
-  pub are_wide : (chains : List Chain) (rows : List Row) → AreRows p dropped chains rows → AreWide rows
+  pub are_wide : (chains : List Chain) (rows : List Row) → AreLineRows p dropped chains rows → AreWide rows
   are_wide chains rows h = record { same = λ j k r s a b. is_wide chains rows h j r a ∙ sym (is_wide chains rows h k s b) }
 
 -- the rows are those of the system
 pub rows_are : (p q : GtsParts) (ds : List ℕ) (chains : List Chain) (allowed table : List Bool) (rows : List Row) → q ≡ p
     → table ≡ allowed → AreOpenEvents q ds allowed
-    → ((dropped : List ℕ) → AreOpenEvents q dropped table → AreRows q dropped chains rows) → AreRows p ds chains rows
+    → ((dropped : List ℕ) → AreOpenEvents q dropped table → AreLineRows q dropped chains rows) → AreLineRows p ds chains rows
 rows_are p q ds chains allowed table rows e f h made =
-    subst (λ (z : GtsParts). AreRows z ds chains rows) e
+    subst (λ (z : GtsParts). AreLineRows z ds chains rows) e
     (made ds (subst (λ (z : List Bool). AreOpenEvents q ds z) (sym f) h))

@@ -33,9 +33,9 @@ use Rattle.gts_core.specs.declared.bound.Chain.{Chain}
 use Rattle.gts_core.specs.declared.system.GtsParts.{GtsParts}
 use Rattle.gts_core.specs.declared.system.Observer.{Observer}
 use Rattle.gts_core.proofs.Reading.{yielded_value, value_yielded}
-use Rattle.job_inputs.specs.Chains.{labels_of}
+use Rattle.job_inputs.specs.Chains.{chain_labels}
 use Rattle.job_inputs.specs.CutReads.{AreKnownWays}
-use Rattle.text_pieces.specs.WayLabels.{label_of}
+use Rattle.text_pieces.specs.WayLabels.{numbered_label}
 use Rattle.text_pieces.proofs.Ways.{way_named}
 use Rattle.flow_propagate.specs.declared.propagation.PropagateFault.{PropagateFault}
 use Rattle.flow_propagate.specs.declared.propagation.PropagateFault.TheVariants as propagates
@@ -43,8 +43,8 @@ use Rattle.stepper.specs.Steps.{Standing, IsStartFault, IsStepFault}
 use Rattle.stepper.specs.declared.faults.StepFault.{StepFault}
 use Rattle.stepper.specs.declared.faults.StepFault.TheVariants as fault
 use Rattle.cut_check.specs.Flat.{chain_lines}
-use Rattle.cut_check.specs.Rows.{IsOpenEvent, IsFit, AreRows}
-use Rattle.cut_check.specs.Truths.{StandsAt, HasFired, AreTruths}
+use Rattle.cut_check.specs.Rows.{IsOpenEvent, IsFit, AreLineRows}
+use Rattle.cut_check.specs.Truths.{EndsRunAt, HasFired, AreTruths}
 use Rattle.cut_check.specs.Truths as at
 use Rattle.cut_check.specs.Verdicts.{events_of, IsTrueLine}
 use Rattle.cut_check.specs.declared.rows.Row.{Row}
@@ -57,9 +57,9 @@ parts_of n xs = take-append-drop n xs
 
 -- one way more is the first of the labels, the last first
 pub rev_more : (p : GtsParts) (ways : List WayId) (w : WayId)
-    → reverse (labels_of p (ways ++ w ∷ [])) ≡ label_of p w.n ∷ reverse (labels_of p ways)
-rev_more p ways w = ap reverse (map-append (λ (v : WayId). label_of p v.n) ways (w ∷ []))
-    ∙ reverse-append (labels_of p ways) (label_of p w.n ∷ [])
+    → reverse (chain_labels p (ways ++ w ∷ [])) ≡ numbered_label p w.n ∷ reverse (chain_labels p ways)
+rev_more p ways w = ap reverse (map-append (λ (v : WayId). numbered_label p v.n) ways (w ∷ []))
+    ∙ reverse-append (chain_labels p ways) (numbered_label p w.n ∷ [])
 
 -- What is reached
 
@@ -104,22 +104,22 @@ module _ {V : Type 0} (sys : s.System V) (dropped : List ℕ) where
 
 -- the standing run reaches its valuation
 pub stands_reaches : (sys : s.System ℕ) (dropped : List ℕ) {ls : List Label} {t : List Value}
-    {below : List (List Value)} → StandsAt sys dropped ls t below → Reaches sys dropped ls t
+    {below : List (List Value)} → EndsRunAt sys dropped ls t below → Reaches sys dropped ls t
 stands_reaches sys dropped (at.start f) = cuts.start f
 stands_reaches sys dropped (at.fire w r o step) = cuts.fire w (stands_reaches sys dropped r) o step
 
 -- the run without its last label
 stands_back : (sys : s.System ℕ) (dropped : List ℕ) (l : Label) (ls : List Label) (t u : List Value)
     (below rest : List (List Value)) → below ≡ u ∷ rest
-    → StandsAt sys dropped (l ∷ ls) t below → StandsAt sys dropped ls u rest
+    → EndsRunAt sys dropped (l ∷ ls) t below → EndsRunAt sys dropped ls u rest
 stands_back sys dropped l ls t u below rest e (at.fire {t = v} {below = old} w r o step) =
     let i : v ≡ u = cc in
     let j : old ≡ rest = cc in
-    subst (λ (z : List Value). StandsAt sys dropped ls z rest) i
-    (subst (λ (z : List (List Value)). StandsAt sys dropped ls v z) j r)
+    subst (λ (z : List Value). EndsRunAt sys dropped ls z rest) i
+    (subst (λ (z : List (List Value)). EndsRunAt sys dropped ls v z) j r)
 
 stands_some_below : (sys : s.System ℕ) (dropped : List ℕ) (l : Label) (ls : List Label) (t : List Value)
-    (below : List (List Value)) → below ≡ [] → StandsAt sys dropped (l ∷ ls) t below → ⊥
+    (below : List (List Value)) → below ≡ [] → EndsRunAt sys dropped (l ∷ ls) t below → ⊥
 stands_some_below sys dropped l ls t below e (at.fire w r o step) = cc
 
 module _ (p : GtsParts) (sys : s.System ℕ) (dropped : List ℕ) where
@@ -129,18 +129,18 @@ module _ (p : GtsParts) (sys : s.System ℕ) (dropped : List ℕ) where
       → HasFired p sys dropped old before → HasFired p sys dropped new after
   fired_less old new w before after e back h = record {
     stands =
-        let own = subst (λ (z : List Label). StandsAt sys dropped z before.values before.below)
-        (ap (λ z. reverse (labels_of p z)) e ∙ rev_more p new w) h.stands in
-        stands_back sys dropped (label_of p w.n) (reverse (labels_of p new)) before.values after.values before.below
+        let own = subst (λ (z : List Label). EndsRunAt sys dropped z before.values before.below)
+        (ap (λ z. reverse (chain_labels p z)) e ∙ rev_more p new w) h.stands in
+        stands_back sys dropped (numbered_label p w.n) (reverse (chain_labels p new)) before.values after.values before.below
         after.below back own;
   }
 
   pub fired_none_below : (old new : List WayId) (w : WayId) (before : Standing) → old ≡ new ++ w ∷ []
       → before.below ≡ [] → HasFired p sys dropped old before → ⊥
   fired_none_below old new w before e none h =
-      let own = subst (λ (z : List Label). StandsAt sys dropped z before.values before.below)
-      (ap (λ z. reverse (labels_of p z)) e ∙ rev_more p new w) h.stands in
-      stands_some_below sys dropped (label_of p w.n) (reverse (labels_of p new)) before.values before.below none own
+      let own = subst (λ (z : List Label). EndsRunAt sys dropped z before.values before.below)
+      (ap (λ z. reverse (chain_labels p z)) e ∙ rev_more p new w) h.stands in
+      stands_some_below sys dropped (numbered_label p w.n) (reverse (chain_labels p new)) before.values before.below none own
 
   pub fired_as : (old new : List WayId) (before after : Standing) → old ≡ new → before ≡ after
       → HasFired p sys dropped old before → HasFired p sys dropped new after
@@ -151,8 +151,8 @@ module _ (p : GtsParts) (sys : s.System ℕ) (dropped : List ℕ) where
   pub fired_at_start : (views : Views p sys) (ways : List WayId) (start : Standing) → ways ≡ []
       → Start (net_of p) start.values → start.below ≡ [] → HasFired p sys dropped ways start
   fired_at_start views ways start e f none = record {
-    stands = subst (λ (z : List WayId). StandsAt sys dropped (reverse (labels_of p z)) start.values start.below) (sym e)
-        (subst (λ (z : List (List Value)). StandsAt sys dropped [] start.values z) (sym none)
+    stands = subst (λ (z : List WayId). EndsRunAt sys dropped (reverse (chain_labels p z)) start.values start.below) (sym e)
+        (subst (λ (z : List (List Value)). EndsRunAt sys dropped [] start.values z) (sym none)
         (at.start (subst (λ (n : s.Net ℕ). Start n start.values) (sym views.net) f)));
   }
 
@@ -162,7 +162,7 @@ module _ (p : GtsParts) (sys : s.System ℕ) (dropped : List ℕ) where
         → after.below ≡ before.values ∷ before.below
         → ((w : s.Way ℕ) → IsWayAt before.system way.n w
         → Step (net_of before.system) before.values w (Next after.values))
-        → (v : s.Way ℕ) → IsOpen sys dropped (label_of p way.n) v → HasFired p sys dropped old before
+        → (v : s.Way ℕ) → IsOpen sys dropped (numbered_label p way.n) v → HasFired p sys dropped old before
         → HasFired p sys dropped new after
     fired_more old new before after same e below step v open_way h = record {
       stands =
@@ -172,36 +172,36 @@ module _ (p : GtsParts) (sys : s.System ℕ) (dropped : List ℕ) where
           let done = subst (λ (net : s.Net ℕ). Step net before.values named.way (Next after.values)) (sym views.net)
           (own named.way named.is_at) in
           let i : v ≡ named.way = way_same sys open_way.is_kept.is_way named.is_way in
-          let its = subst (λ (z : s.Way ℕ). IsOpen sys dropped (label_of p way.n) z) i open_way in
-          subst (λ (z : List (List Value)). StandsAt sys dropped (reverse (labels_of p new)) after.values z) (sym below)
-          (subst (λ (z : List Label). StandsAt sys dropped z after.values (before.values ∷ before.below))
-          (sym (ap (λ z. reverse (labels_of p z)) e ∙ rev_more p old way))
+          let its = subst (λ (z : s.Way ℕ). IsOpen sys dropped (numbered_label p way.n) z) i open_way in
+          subst (λ (z : List (List Value)). EndsRunAt sys dropped (reverse (chain_labels p new)) after.values z) (sym below)
+          (subst (λ (z : List Label). EndsRunAt sys dropped z after.values (before.values ∷ before.below))
+          (sym (ap (λ z. reverse (chain_labels p z)) e ∙ rev_more p old way))
           (at.fire named.way h.stands its done));
     }
 
     refused_as : (old : List WayId) (before : Standing) (f : steps.StepFault)
         → ((w : s.Way ℕ) → IsWayAt p way.n w → Step (net_of p) before.values w (Refused f))
         → HasFired p sys dropped old before → (t : List Value)
-        → Reaches sys dropped (label_of p way.n ∷ reverse (labels_of p old)) t → ⊥
+        → Reaches sys dropped (numbered_label p way.n ∷ reverse (chain_labels p old)) t → ⊥
     refused_as old before f step h t r =
         let named = way_named p sys views sound way.n inside in
         let done = subst (λ (net : s.Net ℕ). Step net before.values named.way (Refused f)) (sym views.net)
         (step named.way named.is_at) in
-        refused_not sys dropped (label_of p way.n) (reverse (labels_of p old)) before.values t named.way f
+        refused_not sys dropped (numbered_label p way.n) (reverse (chain_labels p old)) before.values t named.way f
         (stands_reaches sys dropped h.stands) named.is_way done r
 
     -- a way that meets a fault
     pub fire_stops : (old : List WayId) (before : Standing) (f : StepFault) → before.system ≡ p → (f ≡ fault.Memory → ⊥)
         → ((w : s.Way ℕ) → IsWayAt before.system way.n w → IsStepFault (net_of before.system) before.values w f)
         → HasFired p sys dropped old before → (t : List Value)
-        → Reaches sys dropped (label_of p way.n ∷ reverse (labels_of p old)) t → ⊥
+        → Reaches sys dropped (numbered_label p way.n ∷ reverse (chain_labels p old)) t → ⊥
     fire_stops old before f same some is h =
         go f some (subst (λ (q : GtsParts). (w : s.Way ℕ) → IsWayAt q way.n w
         → IsStepFault (net_of q) before.values w f) same is)
       where
         go : (f : StepFault) → (f ≡ fault.Memory → ⊥)
             → ((w : s.Way ℕ) → IsWayAt p way.n w → IsStepFault (net_of p) before.values w f)
-            → (t : List Value) → Reaches sys dropped (label_of p way.n ∷ reverse (labels_of p old)) t → ⊥
+            → (t : List Value) → Reaches sys dropped (numbered_label p way.n ∷ reverse (chain_labels p old)) t → ⊥
         go fault.NotEnabled some is = refused_as old before steps.NotEnabled is h
         go (fault.Clash x) some is = refused_as old before (steps.Clash x.n) is h
         go (fault.Range x) some is = refused_as old before (steps.Range x.n) is h
@@ -210,21 +210,21 @@ module _ (p : GtsParts) (sys : s.System ℕ) (dropped : List ℕ) where
 
   -- the labels behind the fired ways are not reached where the next one meets a fault
   pub stops_all : (ways : List WayId) (n : ℕ) (d : WayId) → n < length ways
-      → ((t : List Value) → Reaches sys dropped (label_of p (get_or ways n d).n ∷ reverse (labels_of p (take n ways))) t
+      → ((t : List Value) → Reaches sys dropped (numbered_label p (get_or ways n d).n ∷ reverse (chain_labels p (take n ways))) t
       → ⊥)
-      → (t : List Value) → Reaches sys dropped (reverse (labels_of p ways)) t → ⊥
+      → (t : List Value) → Reaches sys dropped (reverse (chain_labels p ways)) t → ⊥
   stops_all ways n d lt stop t r =
       let parts : ways ≡ take (n + 1) ways ++ drop (n + 1) ways = sym (parts_of (n + 1) ways) in
-      let e : reverse (labels_of p ways)
-      ≡ reverse (labels_of p (drop (n + 1) ways)) ++ reverse (labels_of p (take (n + 1) ways)) =
-      ap (λ z. reverse (labels_of p z)) parts
-      ∙ ap reverse (map-append (λ (v : WayId). label_of p v.n) (take (n + 1) ways) (drop (n + 1) ways))
-      ∙ reverse-append (labels_of p (take (n + 1) ways)) (labels_of p (drop (n + 1) ways)) in
-      let f : reverse (labels_of p (take (n + 1) ways))
-      ≡ label_of p (get_or ways n d).n ∷ reverse (labels_of p (take n ways)) =
-      ap (λ z. reverse (labels_of p z)) (take_more ways n d lt) ∙ rev_more p (take n ways) (get_or ways n d) in
-      let own = reaches_front sys dropped (reverse (labels_of p (drop (n + 1) ways)))
-      (reverse (labels_of p (take (n + 1) ways))) t
+      let e : reverse (chain_labels p ways)
+      ≡ reverse (chain_labels p (drop (n + 1) ways)) ++ reverse (chain_labels p (take (n + 1) ways)) =
+      ap (λ z. reverse (chain_labels p z)) parts
+      ∙ ap reverse (map-append (λ (v : WayId). numbered_label p v.n) (take (n + 1) ways) (drop (n + 1) ways))
+      ∙ reverse-append (chain_labels p (take (n + 1) ways)) (chain_labels p (drop (n + 1) ways)) in
+      let f : reverse (chain_labels p (take (n + 1) ways))
+      ≡ numbered_label p (get_or ways n d).n ∷ reverse (chain_labels p (take n ways)) =
+      ap (λ z. reverse (chain_labels p z)) (take_more ways n d lt) ∙ rev_more p (take n ways) (get_or ways n d) in
+      let own = reaches_front sys dropped (reverse (chain_labels p (drop (n + 1) ways)))
+      (reverse (chain_labels p (take (n + 1) ways))) t
       (subst (λ (z : List Label). Reaches sys dropped z t) e r) in
       stop own.0 (subst (λ (z : List Label). Reaches sys dropped z own.0) f own.1)
 
@@ -232,12 +232,12 @@ module _ (p : GtsParts) (sys : s.System ℕ) (dropped : List ℕ) where
 
 module _ (p : GtsParts) (sound : IsSound p) (sys : s.System ℕ) (views : Views p sys) (dropped : List ℕ) where
   -- an open event, and a label of it
-  open_way : (way : WayId) → way.n < length p.ways.items → IsOpenEvent p dropped (label_of p way.n).event
-      → (w : s.Way ℕ) × IsOpen sys dropped (label_of p way.n) w
+  open_way : (way : WayId) → way.n < length p.ways.items → IsOpenEvent p dropped (numbered_label p way.n).event
+      → (w : s.Way ℕ) × IsOpen sys dropped (numbered_label p way.n) w
   open_way way inside o =
       let named = way_named p sys views sound way.n inside in
-      let mid = along_on p.events.items sys.events views.events (label_of p way.n).event o.event o.stands in
-      let same : named.is_way.event ≡ mid.0 = stands_one sys.events (label_of p way.n).event named.is_way.event mid.0 named.is_way.is_event mid.1 in (
+      let mid = along_on p.events.items sys.events views.events (numbered_label p way.n).event o.event o.stands in
+      let same : named.is_way.event ≡ mid.0 = stands_one sys.events (numbered_label p way.n).event named.is_way.event mid.0 named.is_way.is_event mid.1 in (
         named.way,
         record {
           is_kept = record { is_way = named.is_way; stays = o.stays };
@@ -245,11 +245,11 @@ module _ (p : GtsParts) (sound : IsSound p) (sys : s.System ℕ) (views : Views 
         },
       )
 
-  pub are_open : (ways : List WayId) → AreKnownWays p ways → IsFit p dropped (labels_of p ways)
-      → AreOpen sys dropped (labels_of p ways)
+  pub are_open : (ways : List WayId) → AreKnownWays p ways → IsFit p dropped (chain_labels p ways)
+      → AreOpen sys dropped (chain_labels p ways)
   are_open ways known f = record {
     each = λ k l at_k.
-        let w = stands_map_back (λ (v : WayId). label_of p v.n) ways k l at_k in
+        let w = stands_map_back (λ (v : WayId). numbered_label p v.n) ways k l at_k in
         let o = f.are_open k l at_k in
         subst (λ (z : Label). (v : s.Way ℕ) × IsOpen sys dropped z v) w.2
         (open_way w.0 (known.each w.0 (one_here ways k w.0 w.1))
@@ -289,13 +289,13 @@ module _ (p : GtsParts) (sound : IsSound p) (sys : s.System ℕ) (views : Views 
   -- whether a fired line is true
   pub fired_answer : (o : Observer) → IsOneOf p.observers.items o
       → (wanted : Value) (ways fired : List WayId) (end : Standing) → IsTotal p end.values → fired ≡ ways
-      → IsFit p dropped (labels_of p ways) → HasFired p sys dropped fired end
+      → IsFit p dropped (chain_labels p ways) → HasFired p sys dropped fired end
       → IsAnswer (is_same (value_in end.values o.value) wanted)
-      (IsTrueLine sys dropped (numbered o.value) wanted (labels_of p ways))
+      (IsTrueLine sys dropped (numbered o.value) wanted (chain_labels p ways))
   fired_answer o one wanted ways fired end total e f h = go (is_same (value_in end.values o.value) wanted) refl
     where
-      reached : Reaches sys dropped (reverse (labels_of p ways)) end.values
-      reached = subst (λ (z : List WayId). Reaches sys dropped (reverse (labels_of p z)) end.values) e
+      reached : Reaches sys dropped (reverse (chain_labels p ways)) end.values
+      reached = subst (λ (z : List WayId). Reaches sys dropped (reverse (chain_labels p z)) end.values) e
           (stands_reaches sys dropped h.stands)
 
       yields : Yields (HasValue sys.net end.values) (out-Expr ℕ (numbered o.value)) (value_in end.values o.value)
@@ -304,9 +304,9 @@ module _ (p : GtsParts) (sound : IsSound p) (sys : s.System ℕ) (views : Views 
           (value_yielded p end.values total o.value o.kind (sound.observers o one))
 
       go : (b : Bool) → is_same (value_in end.values o.value) wanted ≡ b
-          → IsAnswer b (IsTrueLine sys dropped (numbered o.value) wanted (labels_of p ways))
+          → IsAnswer b (IsTrueLine sys dropped (numbered o.value) wanted (chain_labels p ways))
       go true same = record {
-        once = events_once (labels_of p ways) f;
+        once = events_once (chain_labels p ways) f;
         values = end.values;
         reaches = reached;
         shows = subst (λ (z : Value). Yields (HasValue sys.net end.values) (out-Expr ℕ (numbered o.value)) z)
@@ -361,17 +361,17 @@ module _ (sys : s.System ℕ) (dropped : List ℕ) (observer : Expr ℕ) (wanted
 
 -- a line, and the row of it
 pub line_stands : (p : GtsParts) (chains : List Chain) (n k : ℕ) (c : Chain) (ways : List WayId) → Stands chains n c
-    → ways ≡ c.ways.items → k ≡ n → Stands (chain_lines p chains) k (labels_of p ways)
+    → ways ≡ c.ways.items → k ≡ n → Stands (chain_lines p chains) k (chain_labels p ways)
 line_stands p chains n k c ways s e i =
-    subst (λ (z : ℕ). Stands (chain_lines p chains) z (labels_of p ways)) (sym i)
-    (subst (λ (z : List WayId). Stands (chain_lines p chains) n (labels_of p z)) (sym e)
-    (stands_map (λ (d : Chain). labels_of p d.ways.items) chains n c s))
+    subst (λ (z : ℕ). Stands (chain_lines p chains) z (chain_labels p ways)) (sym i)
+    (subst (λ (z : List WayId). Stands (chain_lines p chains) n (chain_labels p z)) (sym e)
+    (stands_map (λ (d : Chain). chain_labels p d.ways.items) chains n c s))
 
 pub row_fit : (p : GtsParts) (dropped : List ℕ) (chains : List Chain) (rows : List Row) (n : ℕ) (c : Chain) (r : Row)
-    (ways : List WayId) → AreRows p dropped chains rows → Stands chains n c → Stands rows n r → ways ≡ c.ways.items
-    → IsAnswer r.fit (IsFit p dropped (labels_of p ways))
+    (ways : List WayId) → AreLineRows p dropped chains rows → Stands chains n c → Stands rows n r → ways ≡ c.ways.items
+    → IsAnswer r.fit (IsFit p dropped (chain_labels p ways))
 row_fit p dropped chains rows n c r ways h s t e =
-    subst (λ (z : List WayId). IsAnswer r.fit (IsFit p dropped (labels_of p z))) (sym e) (h.each n c r s t).fit
+    subst (λ (z : List WayId). IsAnswer r.fit (IsFit p dropped (chain_labels p z))) (sym e) (h.each n c r s t).fit
 
 -- none is true where the start meets a fault
 pub starts_fail : (p : GtsParts) (sys : s.System ℕ) → Views p sys

@@ -28,6 +28,6 @@ pub record HaveEventNumbers (p : GtsParts) (sets : List (List ℕ)) : Type 0 whe
   pub each : (events : List ℕ) → IsOneOf sets events → AreEventNumbers p events
 
 -- the rows are equally long, and have a bit for each of these events
-pub record HasRoom (sets : LineSets) (events : List ℕ) : Type 0 where
+pub record HasEqualRows (sets : LineSets) (events : List ℕ) : Type 0 where
   pub same : (k : ℕ) (r : Row) → Stands sets.rows.items k r → length r.words.items ≡ length sets.asked.items
   pub inside : (e : ℕ) → IsOneOf events e → e / 64 < length sets.asked.items

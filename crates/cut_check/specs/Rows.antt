@@ -7,7 +7,7 @@ use Rattle.flow_blocks.specs.Bits.{IsSet, words_for}
 use Rattle.gts_core.specs.declared.bound.Chain.{Chain}
 use Rattle.gts_core.specs.declared.system.Event.{Event}
 use Rattle.gts_core.specs.declared.system.GtsParts.{GtsParts}
-use Rattle.job_inputs.specs.Chains.{labels_of}
+use Rattle.job_inputs.specs.Chains.{chain_labels}
 use Rattle.cut_check.specs.Verdicts.{events_of}
 use Rattle.cut_check.specs.declared.rows.Row.{Row}
 
@@ -46,10 +46,10 @@ pub record IsRow (p : GtsParts) (dropped : List ℕ) (ls : List Label) (row : Ro
   pub fit : IsAnswer row.fit (IsFit p dropped ls)
 
 -- the rows of these lines, in order
-pub record AreRows (p : GtsParts) (dropped : List ℕ) (chains : List Chain) (rows : List Row) : Type 0 where
+pub record AreLineRows (p : GtsParts) (dropped : List ℕ) (chains : List Chain) (rows : List Row) : Type 0 where
   pub long : length rows ≡ length chains
   pub each : (k : ℕ) (c : Chain) (r : Row) → Stands chains k c → Stands rows k r
-      → IsRow p dropped (labels_of p c.ways.items) r
+      → IsRow p dropped (chain_labels p c.ways.items) r
 
 -- the rows have the events of these lines as bits
 pub record HaveBits (lines : List (List Label)) (rows : List Row) : Type 0 where

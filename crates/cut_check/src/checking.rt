@@ -11,7 +11,7 @@ ghost use Rattle.gts_core.specs.declared.system.Observer.{Observer};
 ghost use Rattle.job_inputs.specs.Chains.{HaveKnownWays};
 ghost use Rattle.typed_expr.specs.declared.expr.Expr.{Expr as TheExpr};
 ghost use Rattle.job_inputs.specs.NamingInside.{AreEventsOf};
-ghost use Rattle.cut_check.specs.Flat.{chain_lines, numbers_of, AreVerdicts, IsVerdict};
+ghost use Rattle.cut_check.specs.Flat.{chain_lines, flat_event_numbers, AreVerdicts, IsVerdict};
 ghost use Rattle.cut_check.specs.Rows.{HaveBits, AreWide};
 ghost use Rattle.cut_check.specs.Truths.{AreTruths};
 ghost use Rattle.cut_check.specs.Verdicts.{ContainsLine, HoldsLine};
@@ -52,7 +52,7 @@ pub fn verdicts(
     requires known { HaveKnownWays gts.now chains.now }
     ensures { (system : System ℕ) → Views gts.now system
         → (o : Observer) → Stands gts.now.observers.items observer o
-        → IfOk result (λ all. AreVerdicts gts.now system (numbers_of dropped.now) (numbered o.value)
+        → IfOk result (λ all. AreVerdicts gts.now system (flat_event_numbers dropped.now) (numbered o.value)
         wanted chains.now all.items) }
 {
     let parts = gts.parts();

@@ -11,11 +11,11 @@ ghost use Rattle.ar_meaning.specs.Systems.{System, Way};
 ghost use Rattle.domains.specs.declared.Value.{Value as TheValue};
 ghost use Rattle.gts_core.specs.Sound.{IsSound};
 ghost use Rattle.gts_core.specs.View.{Views, net_of, numbered};
-ghost use Rattle.job_inputs.specs.Chains.{labels_of, HaveKnownWays};
+ghost use Rattle.job_inputs.specs.Chains.{chain_labels, HaveKnownWays};
 ghost use Rattle.job_inputs.specs.CutReads.{AreKnownWays};
-ghost use Rattle.text_pieces.specs.WayLabels.{label_of};
+ghost use Rattle.text_pieces.specs.WayLabels.{numbered_label};
 ghost use Rattle.cut_check.specs.Flat.{chain_lines};
-ghost use Rattle.cut_check.specs.Rows.{IsFit, AreRows};
+ghost use Rattle.cut_check.specs.Rows.{IsFit, AreLineRows};
 ghost use Rattle.cut_check.specs.Truths.{HasFired, AreTruths};
 ghost use Rattle.cut_check.specs.Verdicts.{IsTrueLine};
 
@@ -41,7 +41,7 @@ pub(crate) fn true_lines(
     requires rows { length rows.now ≡ length chains.now }
     ensures long { IfOk result (λ truths. length truths.items ≡ length chains.now) }
     ensures truths { (system : System ℕ) → Views gts.now system → (dropped : List ℕ)
-        → AreRows gts.now dropped chains.now rows.now
+        → AreLineRows gts.now dropped chains.now rows.now
         → IfOk result (λ truths. AreTruths system dropped (numbered observer.now.value) wanted
         (chain_lines gts.now chains.now) truths.items) }
 {
@@ -87,7 +87,7 @@ fn fired_lines(
     requires rows { length rows.now ≡ length chains.now }
     ensures long { IfOk result (λ truths. length truths.items ≡ length chains.now) }
     ensures truths { (system : System ℕ) → Views gts.now system → (dropped : List ℕ)
-        → AreRows gts.now dropped chains.now rows.now
+        → AreLineRows gts.now dropped chains.now rows.now
         → IfOk result (λ truths. AreTruths system dropped (numbered observer.now.value) wanted
         (chain_lines gts.now chains.now) truths.items) }
 {
@@ -125,15 +125,15 @@ fn is_true(
     requires observer { IsOneOf gts.now.observers.items observer.now }
     ensures system { stepper.new.system ≡ stepper.old.system }
     ensures fired { (system : System ℕ) → Views gts.now system → (dropped : List ℕ)
-        → IsAnswer fit (IsFit gts.now dropped (labels_of gts.now ways.now))
+        → IsAnswer fit (IsFit gts.now dropped (chain_labels gts.now ways.now))
         → HasFired gts.now system dropped fired.old.items stepper.old
         → OnOk result (HasFired gts.now system dropped fired.new.items stepper.new) }
     ensures answer { (system : System ℕ) → Views gts.now system → (dropped : List ℕ)
-        → IsAnswer fit (IsFit gts.now dropped (labels_of gts.now ways.now))
+        → IsAnswer fit (IsFit gts.now dropped (chain_labels gts.now ways.now))
         → HasFired gts.now system dropped fired.old.items stepper.old
         → IfOk result (λ is. IsAnswer is
         (IsTrueLine system dropped (numbered observer.now.value) wanted
-        (labels_of gts.now ways.now))) }
+        (chain_labels gts.now ways.now))) }
 {
     if !fit {
         return Ok(false);
@@ -207,15 +207,15 @@ fn go_on(
     requires front { fired.old.items ≡ take (vec_len fired.old) ways.now }
     ensures system { stepper.new.system ≡ stepper.old.system }
     ensures fired { (system : System ℕ) → Views gts.now system → (dropped : List ℕ)
-        → AreOpen system dropped (labels_of gts.now ways.now)
+        → AreOpen system dropped (chain_labels gts.now ways.now)
         → HasFired gts.now system dropped fired.old.items stepper.old
         → OnOk result (HasFired gts.now system dropped fired.new.items stepper.new) }
     ensures all { IfOk result (λ done. IsTrue done → fired.new.items ≡ ways.now) }
     ensures stops { (system : System ℕ) → Views gts.now system → (dropped : List ℕ)
-        → AreOpen system dropped (labels_of gts.now ways.now)
+        → AreOpen system dropped (chain_labels gts.now ways.now)
         → HasFired gts.now system dropped fired.old.items stepper.old
         → IfOk result (λ done. done ≡ false → (t : List TheValue)
-        → Reaches system dropped (reverse (labels_of gts.now ways.now)) t → ⊥) }
+        → Reaches system dropped (reverse (chain_labels gts.now ways.now)) t → ⊥) }
 {
     while fired.len() < ways.len() {
         let way = ways[fired.len()];
@@ -242,14 +242,14 @@ fn fire(
         → fired.new.items ≡ fired.old.items ++ way ∷ []) }
     ensures none { IfOk result (λ done. done ≡ false → fired.new ≡ fired.old) }
     ensures fired { (system : System ℕ) → Views gts.now system → (dropped : List ℕ)
-        → (w : Way ℕ) → IsOpen system dropped (label_of gts.now way.n) w
+        → (w : Way ℕ) → IsOpen system dropped (numbered_label gts.now way.n) w
         → HasFired gts.now system dropped fired.old.items stepper.old
         → OnOk result (HasFired gts.now system dropped fired.new.items stepper.new) }
     ensures stops { (system : System ℕ) → Views gts.now system → (dropped : List ℕ)
         → HasFired gts.now system dropped fired.old.items stepper.old
         → IfOk result (λ done. done ≡ false → (t : List TheValue)
-        → Reaches system dropped (label_of gts.now way.n
-        ∷ reverse (labels_of gts.now fired.old.items)) t → ⊥) }
+        → Reaches system dropped (numbered_label gts.now way.n
+        ∷ reverse (chain_labels gts.now fired.old.items)) t → ⊥) }
 {
     match stepper.fire(way) {
         Ok(_) => {

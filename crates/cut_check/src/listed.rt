@@ -4,9 +4,9 @@ ghost use Rattle.std.specs.Prelude.{◌<◌, length};
 ghost use Rattle.ar_base.specs.Lists.{IsOneOf};
 ghost use Rattle.ar_base.specs.Sets.{Within};
 ghost use Rattle.ar_meaning.specs.Found.{IsAnswer};
-ghost use Rattle.job_inputs.specs.Chains.{labels_of, HaveKnownWays};
+ghost use Rattle.job_inputs.specs.Chains.{chain_labels, HaveKnownWays};
 ghost use Rattle.job_inputs.specs.CutReads.{AreKnownWays};
-ghost use Rattle.cut_check.specs.Flat.{chain_lines, numbers_of};
+ghost use Rattle.cut_check.specs.Flat.{chain_lines, flat_event_numbers};
 ghost use Rattle.cut_check.specs.Verdicts.{events_of, IsListed};
 
 use ar_base::{EventId, WayId};
@@ -15,7 +15,7 @@ use gts_core::{Chain, Gts, GtsParts};
 /// Whether the cut's events are exactly those of one of the lines. Takes no memory.
 pub fn is_listed(gts: &Gts, chains: &[Chain], cut: &[EventId]) -> bool
     requires { HaveKnownWays gts.now chains.now }
-    ensures { IsAnswer result (IsListed (chain_lines gts.now chains.now) (numbers_of cut.now)) }
+    ensures { IsAnswer result (IsListed (chain_lines gts.now chains.now) (flat_event_numbers cut.now)) }
 {
     let parts = gts.parts();
     for chain in chains {
@@ -30,8 +30,8 @@ pub fn is_listed(gts: &Gts, chains: &[Chain], cut: &[EventId]) -> bool
 // Whether each event of a line is one of these.
 fn are_among(parts: &GtsParts, ways: &[WayId], cut: &[EventId]) -> bool
     requires { AreKnownWays parts.now ways.now }
-    ensures { IsAnswer result (Within (events_of (labels_of parts.now ways.now))
-        (numbers_of cut.now)) }
+    ensures { IsAnswer result (Within (events_of (chain_labels parts.now ways.now))
+        (flat_event_numbers cut.now)) }
 {
     for way in ways {
         if !is_among(cut, parts.ways[way.n as usize].event.n) {
@@ -44,8 +44,8 @@ fn are_among(parts: &GtsParts, ways: &[WayId], cut: &[EventId]) -> bool
 // Whether each of these events is that of one of a line's labels.
 fn has_all(parts: &GtsParts, ways: &[WayId], cut: &[EventId]) -> bool
     requires { AreKnownWays parts.now ways.now }
-    ensures { IsAnswer result (Within (numbers_of cut.now)
-        (events_of (labels_of parts.now ways.now))) }
+    ensures { IsAnswer result (Within (flat_event_numbers cut.now)
+        (events_of (chain_labels parts.now ways.now))) }
 {
     for event in cut {
         if !has_event(parts, ways, event.n) {
@@ -57,7 +57,7 @@ fn has_all(parts: &GtsParts, ways: &[WayId], cut: &[EventId]) -> bool
 
 // Whether the event is one of these.
 fn is_among(cut: &[EventId], event: u32) -> bool
-    ensures { IsAnswer result (IsOneOf (numbers_of cut.now) event) }
+    ensures { IsAnswer result (IsOneOf (flat_event_numbers cut.now) event) }
 {
     for other in cut {
         if other.n == event {
@@ -70,7 +70,7 @@ fn is_among(cut: &[EventId], event: u32) -> bool
 // Whether the event is that of one of a line's labels.
 fn has_event(parts: &GtsParts, ways: &[WayId], event: u32) -> bool
     requires { AreKnownWays parts.now ways.now }
-    ensures { IsAnswer result (IsOneOf (events_of (labels_of parts.now ways.now)) event) }
+    ensures { IsAnswer result (IsOneOf (events_of (chain_labels parts.now ways.now)) event) }
 {
     for way in ways {
         if parts.ways[way.n as usize].event.n == event {

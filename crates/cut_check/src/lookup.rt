@@ -7,8 +7,8 @@ ghost use Rattle.ar_meaning.specs.Runs.{Label};
 ghost use Rattle.flow_blocks.specs.Bits.{IsSet};
 ghost use Rattle.gts_core.specs.declared.system.GtsParts.{GtsParts as TheParts};
 ghost use Rattle.job_inputs.specs.Chains.{HaveKnownWays};
-ghost use Rattle.cut_check.specs.Flat.{chain_lines, numbers_of};
-ghost use Rattle.cut_check.specs.LineSets.{AreLineSets, HasRoom};
+ghost use Rattle.cut_check.specs.Flat.{chain_lines, flat_event_numbers};
+ghost use Rattle.cut_check.specs.LineSets.{AreLineSets, HasEqualRows};
 ghost use Rattle.cut_check.specs.Rows.{HaveBits};
 ghost use Rattle.cut_check.specs.Verdicts.{IsListed};
 ghost use Rattle.cut_check.specs.declared.rows.Row.{Row as TheRow};
@@ -43,11 +43,11 @@ impl LineSets {
     /// system. Takes no memory. Each line takes a comparison of two rows, which ends at the first
     /// event of the line that is not among these.
     pub fn has(&mut self, events: &[EventId]) -> bool
-        requires { HasRoom self.old (numbers_of events.now) }
+        requires { HasEqualRows self.old (flat_event_numbers events.now) }
         ensures same { (p : TheParts) (lines : List (List Label)) → AreLineSets p lines self.old
             → AreLineSets p lines self.new }
         ensures answer { (p : TheParts) (lines : List (List Label)) → AreLineSets p lines self.old
-            → IsAnswer result (IsListed lines (numbers_of events.now)) }
+            → IsAnswer result (IsListed lines (flat_event_numbers events.now)) }
     {
         put_events(&mut self.asked, events);
         is_any(&self.rows, &self.asked, events)
@@ -56,8 +56,8 @@ impl LineSets {
 
 // Makes a row that of these events.
 fn put_events(row: &mut [u64], events: &[EventId])
-    requires { (n : ℕ) → IsOneOf (numbers_of events.now) n → n / 64 < length row.old }
-    ensures { (n : ℕ) → IsSet row.new n ↔ IsOneOf (numbers_of events.now) n }
+    requires { (n : ℕ) → IsOneOf (flat_event_numbers events.now) n → n / 64 < length row.old }
+    ensures { (n : ℕ) → IsSet row.new n ↔ IsOneOf (flat_event_numbers events.now) n }
 {
     clear(row);
     for event in events {
@@ -77,8 +77,8 @@ fn is_any(rows: &[Row], asked: &[u64], events: &[EventId]) -> bool
     requires { (k : ℕ) (r : TheRow) → Stands rows.now k r
         → length r.words.items ≡ length asked.now }
     ensures { (lines : List (List Label)) → HaveBits lines rows.now
-        → ((n : ℕ) → IsSet asked.now n ↔ IsOneOf (numbers_of events.now) n)
-        → IsAnswer result (IsListed lines (numbers_of events.now)) }
+        → ((n : ℕ) → IsSet asked.now n ↔ IsOneOf (flat_event_numbers events.now) n)
+        → IsAnswer result (IsListed lines (flat_event_numbers events.now)) }
 {
     for row in rows {
         let words: &[u64] = &row.words;
@@ -91,7 +91,7 @@ fn is_any(rows: &[Row], asked: &[u64], events: &[EventId]) -> bool
 
 // Whether a row has the bit of each of these events.
 fn has_all_bits(row: &[u64], events: &[EventId]) -> bool
-    ensures { IsAnswer result ((n : ℕ) → IsOneOf (numbers_of events.now) n → IsSet row.now n) }
+    ensures { IsAnswer result ((n : ℕ) → IsOneOf (flat_event_numbers events.now) n → IsSet row.now n) }
 {
     for event in events {
         if !has(row, event.n) {

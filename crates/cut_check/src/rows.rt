@@ -4,11 +4,11 @@ ghost use Rattle.std.specs.Prelude.{◌≡◌, ◌+◌, ◌/◌, ◌<◌, ◌⊎
 ghost use Rattle.ar_meaning.specs.Found.{IsAnswer};
 ghost use Rattle.lane_rows.specs.Rows.{IsSet, words_for};
 ghost use Rattle.gts_core.specs.Sound.{IsSound};
-ghost use Rattle.job_inputs.specs.Chains.{labels_of, HaveKnownWays};
+ghost use Rattle.job_inputs.specs.Chains.{chain_labels, HaveKnownWays};
 ghost use Rattle.job_inputs.specs.CutReads.{AreKnownWays};
 ghost use Rattle.job_inputs.specs.NamingInside.{AreEventsOf};
-ghost use Rattle.cut_check.specs.Flat.{numbers_of};
-ghost use Rattle.cut_check.specs.Rows.{AreOpenEvents, AreVisible, IsFreshEvent, IsRow, AreRows};
+ghost use Rattle.cut_check.specs.Flat.{flat_event_numbers};
+ghost use Rattle.cut_check.specs.Rows.{AreOpenEvents, AreVisible, IsFreshEvent, IsRow, AreLineRows};
 
 use ar_base::{EventId, Memory, WayId};
 use gts_core::{Chain, GtsParts};
@@ -33,7 +33,7 @@ pub(crate) fn open_events(
 ) -> Result<Vec<bool>, Memory>
     requires { AreEventsOf parts.now dropped.now }
     ensures { IfOk result (λ allowed.
-        AreOpenEvents parts.now (numbers_of dropped.now) allowed.items) }
+        AreOpenEvents parts.now (flat_event_numbers dropped.now) allowed.items) }
 {
     let mut allowed = visible_events(alloc, parts)?;
     for event in dropped {
@@ -64,7 +64,7 @@ pub(crate) fn rows_of(
     requires known { HaveKnownWays parts.now chains.now }
     requires allowed { length allowed.now ≡ length parts.now.events.items }
     ensures { (dropped : List ℕ) → AreOpenEvents parts.now dropped allowed.now
-        → IfOk result (λ rows. AreRows parts.now dropped chains.now rows.items) }
+        → IfOk result (λ rows. AreLineRows parts.now dropped chains.now rows.items) }
 {
     let mut rows = Vec::new(alloc);
     for chain in chains {
@@ -80,7 +80,7 @@ fn row_of(alloc: Global, parts: &GtsParts, allowed: &[bool], ways: &[WayId]) -> 
     requires known { AreKnownWays parts.now ways.now }
     requires allowed { length allowed.now ≡ length parts.now.events.items }
     ensures { (dropped : List ℕ) → AreOpenEvents parts.now dropped allowed.now
-        → IfOk result (λ row. IsRow parts.now dropped (labels_of parts.now ways.now) row) }
+        → IfOk result (λ row. IsRow parts.now dropped (chain_labels parts.now ways.now) row) }
 {
     let mut row = empty_row(alloc, parts.events.len())?;
     for way in ways {

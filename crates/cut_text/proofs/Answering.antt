@@ -1,7 +1,7 @@
 -- What printing answers at its exits.
 use Rattle.std.proofs.Common.{◌≡◌, ℕ, List, Result, Err, refl, sym, subst}
 use Rattle.ar_io.specs.Writing.{SinkState}
-use Rattle.ar_io.specs.WritingInside.{Writes}
+use Rattle.ar_io.specs.Handing.{Writes}
 use Rattle.ar_io.specs.declared.outside.SinkFailed.{SinkFailed}
 use Rattle.cut_text.specs.Answers.{Prints}
 use Rattle.cut_text.specs.declared.faults.PrintFault.{PrintFault}

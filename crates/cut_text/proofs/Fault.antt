@@ -18,8 +18,8 @@ use Rattle.flow_propagate.specs.declared.propagation.FlowFault.{FlowFault}
 use Rattle.gts_core.specs.Sound.{IsSound}
 use Rattle.gts_core.specs.View.{Views, IsWayAt, net_of}
 use Rattle.gts_core.specs.declared.system.GtsParts.{GtsParts}
-use Rattle.min_cuts.specs.Kept.{numbers}
-use Rattle.text_pieces.specs.WayLabels.{label_of}
+use Rattle.min_cuts.specs.Kept.{numbers_of_set}
+use Rattle.text_pieces.specs.WayLabels.{numbered_label}
 use Rattle.text_pieces.specs.Faults.{IsInRange}
 use Rattle.text_pieces.specs.Faults.{IsFaultInRange}
 use Rattle.text_pieces.proofs.Ways.{IsNamed, way_named}
@@ -44,17 +44,17 @@ module _ (p : GtsParts) where
 
   module _ (ways : List WayId) (events : List EventId) where
     abbrev labels : List Label
-    labels = labels_at p ways (numbers events)
+    labels = labels_at p ways (numbers_of_set events)
 
     pub labels_long : length labels ≡ length events
     labels_long =
-        length-map (numbers events) (λ e. label_of p (way_at ways e)) ∙ length-map events (λ (e : EventId). e.n)
+        length-map (numbers_of_set events) (λ e. numbered_label p (way_at ways e)) ∙ length-map events (λ (e : EventId). e.n)
 
     abbrev number_at : ℕ → EventId → WayId → ℕ
     number_at i d w = (get_or ways (get_or events i d).n w).n
 
     -- the number of the way at hand
-    pub here_inside : (i : ℕ) (d : EventId) (w : WayId) → HaveWays p ways (numbers events) → i < length events
+    pub here_inside : (i : ℕ) (d : EventId) (w : WayId) → HaveWays p ways (numbers_of_set events) → i < length events
         → number_at i d w < length p.ways.items
     here_inside i d w h l =
         let has = have_here p ways events i d h l in
@@ -62,28 +62,28 @@ module _ (p : GtsParts) where
         subst (λ (z : WayId). z.n < length p.ways.items) (sym e) has.inside
 
     -- the label at hand
-    pub here_label : (i : ℕ) (d : EventId) (w : WayId) (l : Label) → HaveWays p ways (numbers events)
+    pub here_label : (i : ℕ) (d : EventId) (w : WayId) (l : Label) → HaveWays p ways (numbers_of_set events)
         → i < length events
-        → get_or labels i l ≡ label_of p (number_at i d w)
+        → get_or labels i l ≡ numbered_label p (number_at i d w)
     here_label i d w l h less =
         let has = have_here p ways events i d h less in
-        get_or_from_slice_get labels i (label_of p (way_at ways (get_or events i d).n)) l
-        (stands_map (λ e. label_of p (way_at ways e)) (numbers events) i (get_or events i d).n
+        get_or_from_slice_get labels i (numbered_label p (way_at ways (get_or events i d).n)) l
+        (stands_map (λ e. numbered_label p (way_at ways e)) (numbers_of_set events) i (get_or events i d).n
         (stands_map (λ (e : EventId). e.n) events i (get_or events i d) (stands_get events i d less)))
-        ∙ ap (label_of p) (sym (read_way ways (get_or events i d).n has.way w has.stands))
+        ∙ ap (numbered_label p) (sym (read_way ways (get_or events i d).n has.way w has.stands))
 
   module _ (sound : IsSound p) (sys : s.System ℕ) (views : Views p sys) (dropped : List ℕ) where
     -- the label at hand is fired
     module _ (ls : List Label) (f : flows.FlowFault) (c : Conflicts sys dropped (reverse ls) f) (i : ℕ) (d : Label)
-        (l : i < length ls) (n : ℕ) (inside : n < length p.ways.items) (e : get_or ls i d ≡ label_of p n)
+        (l : i < length ls) (n : ℕ) (inside : n < length p.ways.items) (e : get_or ls i d ≡ numbered_label p n)
         (t : List Value)
         (r : Reaches sys dropped (reverse (take i ls)) t) where
       named : IsNamed p sys n
       named = way_named p sys views sound n inside
 
-      the_goes : Goes sys dropped (reverse (drop (i + 1) ls)) (label_of p n) (reverse (take i ls)) f t named.way
+      the_goes : Goes sys dropped (reverse (drop (i + 1) ls)) (numbered_label p n) (reverse (take i ls)) f t named.way
       the_goes =
-          goes sys dropped (reverse (drop (i + 1) ls)) (label_of p n) (reverse (take i ls)) f t named.way named.is_way r
+          goes sys dropped (reverse (drop (i + 1) ls)) (numbered_label p n) (reverse (take i ls)) f t named.way named.is_way r
           (subst (λ (z : List Label). Conflicts sys dropped z f)
           (around ls i d l ∙ ap (λ (z : Label). reverse (drop (i + 1) ls) ++ (z ∷ reverse (take i ls))) e) c)
 
@@ -95,13 +95,13 @@ module _ (p : GtsParts) where
       next u h =
           subst (λ (z : List Label). Reaches sys dropped z u)
           (sym (one_further ls i d l ∙ ap (λ (z : Label). z ∷ reverse (take i ls)) e))
-          (reached sys dropped (reverse (drop (i + 1) ls)) (label_of p n) (reverse (take i ls)) f t u named.way the_goes
+          (reached sys dropped (reverse (drop (i + 1) ls)) (numbered_label p n) (reverse (take i ls)) f t u named.way the_goes
           (as_step (steps.Next u) (h named.way named.is_at)))
 
       is_fault : (g : steps.StepFault) → steps.Step (net_of p) t named.way (steps.Refused g) → g ≡ steps.Flow f
       is_fault g h =
           let a : ◌≡◌ {A = steps.Answer} (steps.Refused g) (steps.Refused (steps.Flow f)) =
-          met sys dropped (reverse (drop (i + 1) ls)) (label_of p n) (reverse (take i ls)) f t named.way
+          met sys dropped (reverse (drop (i + 1) ls)) (numbered_label p n) (reverse (take i ls)) f t named.way
           (steps.Refused g)
           (λ u k. cc) the_goes (as_step (steps.Refused g) h) in cc
 

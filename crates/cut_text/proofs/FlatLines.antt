@@ -17,14 +17,14 @@ use Rattle.ar_firing.specs.Trees.{AreTrees}
 use Rattle.ar_firing.proofs.Shapes.{are_trees}
 use Rattle.gts_core.specs.declared.system.GtsParts.{GtsParts}
 use Rattle.gts_core.specs.declared.system.Way.{Way}
-use Rattle.mode_trees.specs.Views.{row_of, tree_of, number_in, number_of_found}
+use Rattle.mode_trees.specs.Views.{edge_row, tree_of, number_in, number_of_found}
 use Rattle.mode_trees.specs.Ways.{HasOwnWay, OwnTheirWays}
 use Rattle.mode_trees.specs.declared.forests.Edge as edges
 use Rattle.mode_trees.specs.declared.forests.ModeTree as code
 use Rattle.firable_families.specs.FirableInside.{IsFirableOf}
 use Rattle.min_cuts.specs.Lines.{line_from, IsInFiringOrder}
-use Rattle.text_pieces.specs.WayLabels.{label_found, label_of}
-use Rattle.cut_text.specs.Printed.{edges_of, way_in, labels_in}
+use Rattle.text_pieces.specs.WayLabels.{way_label_found, numbered_label}
+use Rattle.cut_text.specs.Printed.{forest_edges, way_in, labels_in}
 use Rattle.cut_text.proofs.TableLemmas.{tree_of_edge}
 use Rattle.cut_text.proofs.Known.{first_way}
 use Rattle.cut_text.proofs.Relabelled.{one_way, edge_on_line, renumbered}
@@ -196,34 +196,34 @@ module _ (p : GtsParts) (sys : System ℕ) (dropped : List ℕ) (keyed : AreKeye
   shapes : AreTrees (map (tree_of (number_in p)) ts)
   shapes = are_trees sys dropped keyed static (map (tree_of (number_in p)) ts) forest
 
-  own_label : (x : edges.Edge) → IsOneOf (edges_of ts) x → (row_of (number_in p) x).label ≡ label_of p x.way.n
+  own_label : (x : edges.Edge) → IsOneOf (forest_edges ts) x → (edge_row (number_in p) x).label ≡ numbered_label p x.way.n
   own_label x o =
       let t = tree_of_edge ts x o in
       let h : HasOwnWay p x = (own.each t.0 t.1).each x t.2 in
       ap (λ (w : Option Way). (let k : Label = record { event = x.event.n; way = number_of_found w } in k)) h.stands
       ∙ ap (λ (n : ℕ). (let k : Label = record { event = n; way = h.way.number - 1 } in k)) (sym h.is_event)
-      ∙ sym (ap label_found h.stands)
+      ∙ sym (ap way_label_found h.stands)
 
   -- the label of the edge of an event on a line
   back : (set : List ℕ) (f : IsFirableOf (map (tree_of (number_in p)) ts) set) (l : Label)
-      → IsOneOf (line_from 0 (map (tree_of (number_in p)) ts) f.path) l → label_of p (way_in (edges_of ts) l.event) ≡ l
+      → IsOneOf (line_from 0 (map (tree_of (number_in p)) ts) f.path) l → numbered_label p (way_in (forest_edges ts) l.event) ≡ l
   back set f l o =
       let x = edge_on_line (number_in p) ts set f l o in
-      ap (λ (k : Label). label_of p (way_in (edges_of ts) k.event)) (sym x.2)
-      ∙ ap (label_of p) (first_way (edges_of ts) (one_way (number_in p) (number_in p) ts shapes) x.0 x.1)
+      ap (λ (k : Label). numbered_label p (way_in (forest_edges ts) k.event)) (sym x.2)
+      ∙ ap (numbered_label p) (first_way (forest_edges ts) (one_way (number_in p) (number_in p) ts shapes) x.0 x.1)
       ∙ sym (own_label x.0 x.1) ∙ x.2
 
-  all_back : (ls : List Label) → ((l : Label) → IsOneOf ls l → label_of p (way_in (edges_of ts) l.event) ≡ l)
-      → map (λ e. label_of p (way_in (edges_of ts) e)) (map (λ (l : Label). l.event) ls) ≡ ls
+  all_back : (ls : List Label) → ((l : Label) → IsOneOf ls l → numbered_label p (way_in (forest_edges ts) l.event) ≡ l)
+      → map (λ e. numbered_label p (way_in (forest_edges ts) e)) (map (λ (l : Label). l.event) ls) ≡ ls
   all_back [] h = refl
   all_back (l ∷ ls) h =
-      ap (λ (z : Label). z ∷ map (λ e. label_of p (way_in (edges_of ts) e)) (map (λ (l : Label). l.event) ls))
+      ap (λ (z : Label). z ∷ map (λ e. numbered_label p (way_in (forest_edges ts) e)) (map (λ (l : Label). l.event) ls))
       (h l (one_first l ls))
       ∙ ap (λ (z : List Label). l ∷ z) (all_back ls (λ k o. h k (one_rest l ls k o)))
 
   -- the labels of the edges of a set's events in firing order are its line
   pub flat_line : (set : List ℕ) (events : List ℕ) → IsInFiringOrder (map (tree_of (λ n. n)) ts) set events
-      → IsLine sys dropped set (labels_in p (edges_of ts) events)
+      → IsLine sys dropped set (labels_in p (forest_edges ts) events)
   flat_line set events given =
       let numbers : List firing.ModeTree = map (tree_of (number_in p)) ts in
       let g = renumbered (number_in p) ts set given.is_firable in
@@ -233,7 +233,7 @@ module _ (p : GtsParts) (sys : System ℕ) (dropped : List ℕ) (keyed : AreKeye
       record {
         values = r.0;
         is_firable = r.1;
-        is = ap (map (λ e. label_of p (way_in (edges_of ts) e))) same
+        is = ap (map (λ e. numbered_label p (way_in (forest_edges ts) e))) same
             ∙ all_back line (λ l o. back set g.0 l o)
             ∙ sym (line_in_trees sys dropped keyed static numbers forest set r.0 r.1 g.0.path r.2);
       }

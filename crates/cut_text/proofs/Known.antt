@@ -14,9 +14,9 @@ use Rattle.gts_core.specs.declared.system.GtsParts.{GtsParts}
 use Rattle.mode_trees.specs.Ways.{OwnTheirWays}
 use Rattle.mode_trees.specs.declared.forests.Edge.{Edge}
 use Rattle.mode_trees.specs.declared.forests.ModeTree.{ModeTree}
-use Rattle.text_pieces.specs.WayLabels.{label_of, way_label}
-use Rattle.cut_text.specs.Printed.{edges_of, way_in, labels_in, sets_text, conflict_text, HaveOneWay, HasEdge, AreOfEdges}
-use Rattle.cut_text.specs.Tables.{AreWaysOf, way_found, way_at, texts_at, labels_at, lines_at, HasWay, AllHaveWays}
+use Rattle.text_pieces.specs.WayLabels.{numbered_label, way_label}
+use Rattle.cut_text.specs.Printed.{forest_edges, way_in, labels_in, sets_text, conflict_text, HaveOneWay, HasEdge, AreOfEdges}
+use Rattle.cut_text.specs.Tables.{HasEdgeWays, way_found, way_at, texts_at, labels_at, lines_at, HasWay, AllHaveWays}
 use Rattle.cut_text.specs.Texts.{braced, fault_line}
 use Rattle.cut_text.proofs.TableLemmas.{tree_of_edge}
 
@@ -46,7 +46,7 @@ pub known_way : (edges : List Edge) → HaveOneWay edges → (e : ℕ) (h : HasE
 known_way edges one e h =
     ap (way_in edges) (sym h.is_event) ∙ first_way edges one h.edge h.is_edge
 
-module _ (edges : List Edge) (one : HaveOneWay edges) (ways : List WayId) (are : AreWaysOf edges ways) where
+module _ (edges : List Edge) (one : HaveOneWay edges) (ways : List WayId) (are : HasEdgeWays edges ways) where
   pub same_way : (e : ℕ) → HasEdge edges e → way_at ways e ≡ way_in edges e
   same_way e h =
       let w = are.each h.edge h.is_edge in
@@ -70,9 +70,9 @@ module _ (edges : List Edge) (one : HaveOneWay edges) (ways : List WayId) (are :
       (same_lines p ss (record { each = λ x o. h.each x (one_rest s ss x o) }))
 
 module _ (p : GtsParts) (ts : List ModeTree) (own : OwnTheirWays p ts) (ways : List WayId)
-    (are : AreWaysOf (edges_of ts) ways) where
+    (are : HasEdgeWays (forest_edges ts) ways) where
   -- the event of an edge has a way
-  pub has_way : (e : ℕ) → HasEdge (edges_of ts) e → HasWay p ways e
+  pub has_way : (e : ℕ) → HasEdge (forest_edges ts) e → HasWay p ways e
   has_way e h =
       let w = are.each h.edge h.is_edge in
       let t = tree_of_edge ts h.edge h.is_edge in
@@ -84,11 +84,11 @@ module _ (p : GtsParts) (ts : List ModeTree) (own : OwnTheirWays p ts) (ways : L
             (stands_within p.ways.items h.edge.way.n o.way o.stands);
       }
 
-  pub have_ways : (sets : List (List ℕ)) → AreOfEdges (edges_of ts) sets → AllHaveWays p ways sets
+  pub have_ways : (sets : List (List ℕ)) → AreOfEdges (forest_edges ts) sets → AllHaveWays p ways sets
   have_ways sets h = record { each = λ events o. record { each = λ e q. has_way e (h.each events o e q) } }
 
 -- the set that is given is the first
-module _ (edges : List Edge) (one : HaveOneWay edges) (ways : List WayId) (are : AreWaysOf edges ways) (p : GtsParts)
+module _ (edges : List Edge) (one : HaveOneWay edges) (ways : List WayId) (are : HasEdgeWays edges ways) (p : GtsParts)
     (sets : List (List ℕ)) (known : AreOfEdges edges sets) (given events : List ℕ) (rest later : List (List ℕ))
     (e : sets ≡ given ∷ rest) (h : sets ≡ events ∷ later) where
   same_events : given ≡ events
@@ -98,7 +98,7 @@ module _ (edges : List Edge) (one : HaveOneWay edges) (ways : List WayId) (are :
   known_events = known.each events (subst (λ (z : List (List ℕ)). IsOneOf z events) (sym h) (one_first events later))
 
   pub same_labels : labels_at p ways given ≡ labels_in p edges events
-  same_labels = ap (labels_at p ways) same_events ∙ same_map edges one ways are (label_of p) events known_events
+  same_labels = ap (labels_at p ways) same_events ∙ same_map edges one ways are (numbered_label p) events known_events
 
   pub conflict_here : (sys : System ℕ) (dropped : List ℕ) (f : FlowFault)
       → Conflicts sys dropped (reverse (labels_in p edges events)) f → Conflicts sys dropped

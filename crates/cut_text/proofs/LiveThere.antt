@@ -1,6 +1,6 @@
 -- A system and a flat system of it have the same events with a live edge.
 use Rattle.std.proofs.Common.{ℕ, List}
-use Rattle.typed_expr.specs.PairsInside.{turned}
+use Rattle.typed_expr.specs.PairsInside.{turned_pairs}
 use Rattle.ar_meaning.specs.Systems.{System}
 use Rattle.ar_meaning.specs.ImageInside.{IsImage}
 use Rattle.ar_meaning.specs.FlatOf.{IsNumber, IsFlatOf}
@@ -25,7 +25,7 @@ live_event_there same here there image dropped e h = record {
 pub live_events_there : {V : Type 0} (things : List V) (sys : System V) (flat : System ℕ) → IsFlatOf things sys flat
     → (dropped events : List ℕ) → AreLiveEvents flat dropped events → AreLiveEvents sys dropped events
 live_events_there things sys flat of dropped events live = record {
-  sound = λ e o. live_event_there (turned (IsNumber things)) flat sys (flat_back things sys flat of) dropped e
+  sound = λ e o. live_event_there (turned_pairs (IsNumber things)) flat sys (flat_back things sys flat of) dropped e
       (live.sound e o);
   whole = λ e h. live.whole e (live_event_there (IsNumber things) sys flat (flat_image things sys flat of) dropped e h);
   different = live.different;

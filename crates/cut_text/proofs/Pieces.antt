@@ -7,8 +7,8 @@ use Rattle.ar_base.specs.NumbersInside.{EventId}
 use Rattle.ar_base.proofs.Standing.{one_here, one_first, one_rest, stands_map, stands_get}
 use Rattle.ar_base.proofs.Lines.{line_after}
 use Rattle.gts_core.specs.declared.system.GtsParts.{GtsParts}
-use Rattle.min_cuts.specs.Kept.{numbers}
-use Rattle.min_cuts.specs.Gives.{Gives}
+use Rattle.min_cuts.specs.Kept.{numbers_of_set}
+use Rattle.min_cuts.specs.Gives.{GivesNextSet}
 use Rattle.cut_text.specs.Tables.{way_found, way_at, HasWay, HaveWays, AllHaveWays}
 use Rattle.cut_text.specs.Texts.{count_line, fault_line, order_end}
 
@@ -36,30 +36,30 @@ read_way ways e w d s = ap (λ (z : WayId). z.n) (get_or_from_slice_get ways e w
 
 module _ (p : GtsParts) (ways : List WayId) where
   -- the event at hand has a way
-  pub have_here : (events : List EventId) (i : ℕ) (d : EventId) → HaveWays p ways (numbers events) → i < length events
+  pub have_here : (events : List EventId) (i : ℕ) (d : EventId) → HaveWays p ways (numbers_of_set events) → i < length events
       → HasWay p ways (get_or events i d).n
   have_here events i d h l =
       h.each (get_or events i d).n
-      (one_here (numbers events) i _ (stands_map (λ (e : EventId). e.n) events i (get_or events i d)
+      (one_here (numbers_of_set events) i _ (stands_map (λ (e : EventId). e.n) events i (get_or events i d)
       (stands_get events i d l)))
 
   -- the first event has a way, and so have the others
   pub have_first : (events : List EventId) (first : EventId) (others : List EventId) → events ≡ first ∷ others
-      → HaveWays p ways (numbers events) → HasWay p ways first.n
+      → HaveWays p ways (numbers_of_set events) → HasWay p ways first.n
   have_first events first others e h =
-      (subst (λ (z : List EventId). HaveWays p ways (numbers z)) e h).each first.n (one_first first.n (numbers others))
+      (subst (λ (z : List EventId). HaveWays p ways (numbers_of_set z)) e h).each first.n (one_first first.n (numbers_of_set others))
 
   pub have_rest : (events : List EventId) (first : EventId) (others : List EventId) → events ≡ first ∷ others
-      → HaveWays p ways (numbers events) → HaveWays p ways (numbers others)
+      → HaveWays p ways (numbers_of_set events) → HaveWays p ways (numbers_of_set others)
   have_rest events first others e h = record {
-    each = λ x o. (subst (λ (z : List EventId). HaveWays p ways (numbers z)) e h).each x
-        (one_rest first.n (numbers others) x o);
+    each = λ x o. (subst (λ (z : List EventId). HaveWays p ways (numbers_of_set z)) e h).each x
+        (one_rest first.n (numbers_of_set others) x o);
   }
 
 -- the set that is given, and what is left behind it
 pub gives_some : (old new : List (List ℕ)) (answer : Option (Bor (List EventId))) (events : Bor (List EventId))
-    → answer ≡ Some events → Gives old new answer → old ≡ numbers events.now ∷ new
-gives_some old new answer events e h = subst (λ z. Gives old new z) e h
+    → answer ≡ Some events → GivesNextSet old new answer → old ≡ numbers_of_set events.now ∷ new
+gives_some old new answer events e h = subst (λ z. GivesNextSet old new z) e h
 
 module _ (p : GtsParts) (ways : List WayId) where
   -- the events of the set that is given have ways, and so have those that are left

@@ -8,13 +8,13 @@ use Rattle.ar_meaning.specs.Runs.{Label}
 use Rattle.ar_firing.specs.Forest.{Row}
 use Rattle.ar_firing.specs.Forest as firing
 use Rattle.ar_firing.specs.Trees.{IsTree, AreTrees}
-use Rattle.mode_trees.specs.Views.{row_of, tree_of}
+use Rattle.mode_trees.specs.Views.{edge_row, tree_of}
 use Rattle.mode_trees.specs.declared.forests.Edge.{Edge}
 use Rattle.mode_trees.specs.declared.forests.ModeTree.{ModeTree}
 use Rattle.firable_families.specs.FirableInside.{LeadsToMode, IsFirableOf}
 use Rattle.firable_families.specs.FirableInside.LeadsToMode.{root, edge}
 use Rattle.min_cuts.specs.Lines.{line_from, IsInFiringOrder, AreInFiringOrder}
-use Rattle.cut_text.specs.Printed.{edges_of, HaveOneWay, AreOfEdges}
+use Rattle.cut_text.specs.Printed.{forest_edges, HaveOneWay, AreOfEdges}
 use Rattle.cut_text.proofs.TableLemmas.{edge_in, tree_of_edge}
 
 -- edges that differ in the number of their way alone
@@ -24,12 +24,12 @@ record Alike (q r : Row) : Type 0 where
   pub event : q.label.event ≡ r.label.event
 
 module _ (number other : ℕ → ℕ) where
-  row_there : (es : List Edge) (k : ℕ) (r : Row) → Stands (map (row_of other) es) k r
-      → (q : Row) × Stands (map (row_of number) es) k q × Alike q r
+  row_there : (es : List Edge) (k : ℕ) (r : Row) → Stands (map (edge_row other) es) k r
+      → (q : Row) × Stands (map (edge_row number) es) k q × Alike q r
   row_there es k r s =
-      let b = stands_map_back (row_of other) es k r s in (
-        row_of number b.0,
-        stands_map (row_of number) es k b.0 b.1,
+      let b = stands_map_back (edge_row other) es k r s in (
+        edge_row number b.0,
+        stands_map (edge_row number) es k b.0 b.1,
         record {
           from = ap (λ (z : Row). z.from) b.2;
           to = ap (λ (z : Row). z.to) b.2;
@@ -76,44 +76,44 @@ module _ (number other : ℕ → ℕ) (ts : List ModeTree) (h : AreTrees (map (t
       one = λ j k s t a b c d l m x y p q e.
           let u = stands_map_back (tree_of other) ts j s x in
           let v = stands_map_back (tree_of other) ts k t y in
-          let p2 : IsOneOf (map (row_of other) u.0.edges.items) (record { from = a; label = l; to = b }) = subst
+          let p2 : IsOneOf (map (edge_row other) u.0.edges.items) (record { from = a; label = l; to = b }) = subst
           (λ (z : firing.ModeTree). IsOneOf z.edges (record { from = a; label = l; to = b })) (sym u.2) p in
-          let q2 : IsOneOf (map (row_of other) v.0.edges.items) (record { from = c; label = m; to = d }) = subst
+          let q2 : IsOneOf (map (edge_row other) v.0.edges.items) (record { from = c; label = m; to = d }) = subst
           (λ (z : firing.ModeTree). IsOneOf z.edges (record { from = c; label = m; to = d })) (sym v.2) q in
           let f = row_there number other u.0.edges.items p2.place _ p2.stands in
           let g = row_there number other v.0.edges.items q2.place _ q2.stands in
           h.apart.one j k (tree_of number u.0) (tree_of number v.0) f.0.from f.0.to g.0.from g.0.to f.0.label g.0.label
           (stands_map (tree_of number) ts j u.0 u.1) (stands_map (tree_of number) ts k v.0 v.1)
-          (one_here (map (row_of number) u.0.edges.items) p2.place f.0 f.1)
-          (one_here (map (row_of number) v.0.edges.items) q2.place g.0 g.1)
+          (one_here (map (edge_row number) u.0.edges.items) p2.place f.0 f.1)
+          (one_here (map (edge_row number) v.0.edges.items) q2.place g.0 g.1)
           (f.2.event ∙ e ∙ sym g.2.event);
     };
   }
 
   -- edges with one event are one
-  pub one_edge : (a b : Edge) → IsOneOf (edges_of ts) a → IsOneOf (edges_of ts) b → a.event.n ≡ b.event.n → a ≡ b
+  pub one_edge : (a b : Edge) → IsOneOf (forest_edges ts) a → IsOneOf (forest_edges ts) b → a.event.n ≡ b.event.n → a ≡ b
   one_edge a b o q e =
       let t = tree_of_edge ts a o in
       let u = tree_of_edge ts b q in
       let s = stands_map (tree_of number) ts t.1.place t.0 t.1.stands in
       let v = stands_map (tree_of number) ts u.1.place u.0 u.1.stands in
-      let x = stands_map (row_of number) t.0.edges.items t.2.place a t.2.stands in
-      let y = stands_map (row_of number) u.0.edges.items u.2.place b u.2.stands in
+      let x = stands_map (edge_row number) t.0.edges.items t.2.place a t.2.stands in
+      let y = stands_map (edge_row number) u.0.edges.items u.2.place b u.2.stands in
       let i : t.1.place ≡ u.1.place =
       h.apart.one t.1.place u.1.place (tree_of number t.0) (tree_of number u.0) a.from a.to b.from b.to
-      (row_of number a).label (row_of number b).label s v
-      (one_here (map (row_of number) t.0.edges.items) t.2.place (row_of number a) x)
-      (one_here (map (row_of number) u.0.edges.items) u.2.place (row_of number b) y) e in
+      (edge_row number a).label (edge_row number b).label s v
+      (one_here (map (edge_row number) t.0.edges.items) t.2.place (edge_row number a) x)
+      (one_here (map (edge_row number) u.0.edges.items) u.2.place (edge_row number b) y) e in
       let same : t.0 ≡ u.0 = stands_one ts u.1.place t.0 u.0
       (subst (λ (n : ℕ). Stands ts n t.0) i t.1.stands) u.1.stands in
       let there : Stands t.0.edges.items u.2.place b = subst (λ (z : ModeTree). Stands z.edges.items u.2.place b)
       (sym same) u.2.stands in
       let k : t.2.place ≡ u.2.place =
-      (h.each t.1.place (tree_of number t.0) s).event t.2.place u.2.place (row_of number a) (row_of number b) x
-      (stands_map (row_of number) t.0.edges.items u.2.place b there) e in
+      (h.each t.1.place (tree_of number t.0) s).event t.2.place u.2.place (edge_row number a) (edge_row number b) x
+      (stands_map (edge_row number) t.0.edges.items u.2.place b there) e in
       stands_one t.0.edges.items u.2.place a b (subst (λ (n : ℕ). Stands t.0.edges.items n a) k t.2.stands) there
 
-  pub one_way : HaveOneWay (edges_of ts)
+  pub one_way : HaveOneWay (forest_edges ts)
   one_way = record { one = λ a b o q e. ap (λ (z : Edge). z.way.n) (one_edge a b o q e) }
 
 -- a label of a list turned round
@@ -153,15 +153,15 @@ path_row (edge {l = x} {ls = xs} {m = m} {to = to} p s) l o = ⊎_elim
 pub edge_on_line : (number : ℕ → ℕ) (ts : List ModeTree) (set : List ℕ)
     (f : IsFirableOf (map (tree_of number) ts) set) (l : Label)
     → IsOneOf (line_from 0 (map (tree_of number) ts) f.path) l
-    → (x : Edge) × IsOneOf (edges_of ts) x × ((row_of number x).label ≡ l)
+    → (x : Edge) × IsOneOf (forest_edges ts) x × ((edge_row number x).label ≡ l)
 edge_on_line number ts set f l o =
     let p = on_line 0 (map (tree_of number) ts) f.path l o in
     let w = f.walks p.0 p.1 p.2 in
     let r = path_row w.1 l (subst (λ (n : ℕ). IsOneOf (f.path n) l) (omega arith) p.3) in
     let t = stands_map_back (tree_of number) ts p.0 p.1 p.2 in
-    let q : IsOneOf (map (row_of number) t.0.edges.items) r.0 = subst (λ (z : firing.ModeTree). IsOneOf z.edges r.0)
+    let q : IsOneOf (map (edge_row number) t.0.edges.items) r.0 = subst (λ (z : firing.ModeTree). IsOneOf z.edges r.0)
     (sym t.2) r.1 in
-    let x = stands_map_back (row_of number) t.0.edges.items q.place r.0 q.stands in (
+    let x = stands_map_back (edge_row number) t.0.edges.items q.place r.0 q.stands in (
       x.0,
       edge_in ts t.0 x.0 (one_here ts p.0 t.0 t.1) (one_here t.0.edges.items q.place x.0 x.1),
       ap
@@ -170,7 +170,7 @@ edge_on_line number ts set f l o =
 
 -- the events of sets in firing order are those of edges
 pub known : (ts : List ModeTree) (sets lists : List (List ℕ)) → AreInFiringOrder (map (tree_of (λ n. n)) ts) sets lists
-    → AreOfEdges (edges_of ts) lists
+    → AreOfEdges (forest_edges ts) lists
 known ts sets lists h = record {
   each = λ events o e q.
       let b = along_back sets lists h o.place events o.stands in
@@ -198,14 +198,14 @@ module _ (number : ℕ → ℕ) where
       → LeadsToMode (tree_of number t) (map (renumber number) ls) m
   leads_as t (root e) = root e
   leads_as t (edge {l = l} {m = m} {to = to} p o) =
-      let b = stands_map_back (row_of (λ n. n)) t.edges.items o.place
+      let b = stands_map_back (edge_row (λ n. n)) t.edges.items o.place
       (record { from = m; label = l; to = to }) o.stands in
-      let e : row_of number b.0 ≡ record { from = m; label = renumber number l; to = to } =
+      let e : edge_row number b.0 ≡ record { from = m; label = renumber number l; to = to } =
       ap (λ (z : Row). (let r : Row = record { from = z.from; label = renumber number z.label; to = z.to } in r)) b.2 in
       edge (leads_as t p)
-      (subst (λ (z : Row). IsOneOf (map (row_of number) t.edges.items) z) e
-      (one_here (map (row_of number) t.edges.items) o.place (row_of number b.0)
-      (stands_map (row_of number) t.edges.items o.place b.0 b.1)))
+      (subst (λ (z : Row). IsOneOf (map (edge_row number) t.edges.items) z) e
+      (one_here (map (edge_row number) t.edges.items) o.place (edge_row number b.0)
+      (stands_map (edge_row number) t.edges.items o.place b.0 b.1)))
 
   events_kept : (ls : List Label) → map (λ (l : Label). l.event) (map (renumber number) ls) ≡ map
       (λ (l : Label). l.event) ls

@@ -4,7 +4,7 @@ use Rattle.domains.specs.declared.Value.{Value}
 use Rattle.ar_base.specs.Lists.{Along}
 use Rattle.ar_base.specs.Lists as l
 use Rattle.ar_base.specs.Texts.{line, text_at}
-use Rattle.typed_expr.specs.PairsInside.{turned}
+use Rattle.typed_expr.specs.PairsInside.{turned_pairs}
 use Rattle.typed_expr.specs.Yields.{Yields}
 use Rattle.typed_expr.specs.declared.expr.Expr.{Expr, out-Expr}
 use Rattle.ar_meaning.specs.Systems.{System}
@@ -40,9 +40,9 @@ use Rattle.mode_trees.specs.declared.forests.Edge.{Edge}
 use Rattle.mode_trees.specs.declared.forests.Forest.{Forest}
 use Rattle.min_cuts.specs.Lines.{IsInFiringOrder, AreInFiringOrder}
 use Rattle.min_cuts.specs.Sizes.{count}
-use Rattle.text_pieces.specs.WayLabels.{label_of, way_label}
+use Rattle.text_pieces.specs.WayLabels.{numbered_label, way_label}
 use Rattle.text_pieces.proofs.Ways.{label_alike}
-use Rattle.cut_text.specs.Printed.{edges_of, way_in, labels_in, events_text, sets_text, cuts_text, conflict_text, things_of, IsForestOf}
+use Rattle.cut_text.specs.Printed.{forest_edges, way_in, labels_in, events_text, sets_text, cuts_text, conflict_text, things_of, IsForestOf}
 use Rattle.cut_text.specs.Texts.{braced, labels_text, label_lists, count_line, fault_line, order_end, IsCutText, IsConflictText}
 use Rattle.cut_text.proofs.UpToOrder.{has_other}
 use Rattle.cut_text.proofs.FlatLines.{flat_line}
@@ -62,7 +62,7 @@ module _ (x : Elaborated) (p : GtsParts) (flat : System ℕ) (dropped : List ℕ
   names = naming_of x.declarations
 
   abbrev edges : List Edge
-  edges = edges_of f.trees.items
+  edges = forest_edges f.trees.items
 
   pub is_flat_of : IsFlatOf things x.system flat
   is_flat_of = subst (λ (z : System ℕ). IsFlatOf things x.system z)
@@ -82,7 +82,7 @@ module _ (x : Elaborated) (p : GtsParts) (flat : System ℕ) (dropped : List ℕ
   source_set : (set events : List ℕ) → IsInFiringOrder (trees_of (λ n. n) f) set events
       → IsLine x.system dropped set (labels_in p edges events)
   source_set set events g =
-      line_there (turned (IsNumber things)) flat x.system (flat_back things x.system flat is_flat_of) dropped
+      line_there (turned_pairs (IsNumber things)) flat x.system (flat_back things x.system flat is_flat_of) dropped
       (flat_set set events g)
 
   lines_of : {sets lists : List (List ℕ)} → AreInFiringOrder (trees_of (λ n. n) f) sets lists
@@ -91,19 +91,19 @@ module _ (x : Elaborated) (p : GtsParts) (flat : System ℕ) (dropped : List ℕ
   lines_of (l.one_and {a = s} {b = es} r rs) = l.one_and (source_set s es r) (lines_of rs)
 
   -- the labels
-  label_is : (n : ℕ) → way_label p n ≡ label_text names x.system (label_of p n)
+  label_is : (n : ℕ) → way_label p n ≡ label_text names x.system (numbered_label p n)
   label_is n =
       sym (label_alike p flat h.views n)
-      ∙ ap (λ (z : Naming). label_text z flat (label_of p n)) h.is_flat.names
-      ∙ ap (λ (z : ℕ). way_text (text_at names.events (label_of p n).event) z (label_of p n).way)
-      (sym (ways_count (IsNumber things) is_flat_of.events (label_of p n).event))
+      ∙ ap (λ (z : Naming). label_text z flat (numbered_label p n)) h.is_flat.names
+      ∙ ap (λ (z : ℕ). way_text (text_at names.events (numbered_label p n).event) z (numbered_label p n).way)
+      (sym (ways_count (IsNumber things) is_flat_of.events (numbered_label p n).event))
 
   labels_are : (events : List ℕ)
       → map (λ e. way_label p (way_in edges e)) events ≡ map (label_text names x.system) (labels_in p edges events)
   labels_are [] = refl
   labels_are (e ∷ es) =
       ap (λ (z : List ℕ). z ∷ map (λ e. way_label p (way_in edges e)) es) (label_is (way_in edges e))
-      ∙ ap (λ (z : List (List ℕ)). label_text names x.system (label_of p (way_in edges e)) ∷ z) (labels_are es)
+      ∙ ap (λ (z : List (List ℕ)). label_text names x.system (numbered_label p (way_in edges e)) ∷ z) (labels_are es)
 
   text_is : (events : List ℕ) → events_text p edges events ≡ labels_text names x.system (labels_in p edges events)
   text_is events = ap braced (labels_are events)
@@ -152,10 +152,10 @@ module _ (x : Elaborated) (p : GtsParts) (flat : System ℕ) (dropped : List ℕ
         let r = flat_replays ls (makes_there (IsNumber things) x.system flat there dropped observer other q wanted
         set m) flat_is in
         let back = flat_back things x.system flat is_flat_of in
-        let reaches = reaches_there (turned (IsNumber things)) flat x.system back dropped r.1 in
+        let reaches = reaches_there (turned_pairs (IsNumber things)) flat x.system back dropped r.1 in
         let shows =
-        carries ℕ Thing (HasValue flat.net r.0) (HasValue x.system.net r.0) (turned (IsNumber things))
-        (λ a b v s k. value_there (turned (IsNumber things)) flat.net x.system.net back.net r.0 a b v s k) r.2
+        carries ℕ Thing (HasValue flat.net r.0) (HasValue x.system.net r.0) (turned_pairs (IsNumber things))
+        (λ a b v s k. value_there (turned_pairs (IsNumber things)) flat.net x.system.net back.net r.0 a b v s k) r.2
         (renames_turned (IsNumber things) q.renames) in
         (r.0, reaches, undropped x.system dropped reaches, shows)
 
@@ -179,14 +179,14 @@ module _ (x : Elaborated) (p : GtsParts) (flat : System ℕ) (dropped : List ℕ
         later = sets;
         are_listed = listed_as
             (has_other order (ConflictSet flat dropped) (ConflictSet x.system dropped)
-            (λ s c. conflict_set_there (turned (IsNumber things)) flat x.system back dropped s c))
+            (λ s c. conflict_set_there (turned_pairs (IsNumber things)) flat x.system back dropped s c))
             (has_other order (ConflictSet x.system dropped) (ConflictSet flat dropped)
             (λ s c. conflict_set_there (IsNumber things) x.system flat there dropped s c))
             listed;
         labels = labels_in p edges events;
-        is_line = line_there (turned (IsNumber things)) flat x.system back dropped (first_line set sets events lists g);
+        is_line = line_there (turned_pairs (IsNumber things)) flat x.system back dropped (first_line set sets events lists g);
         fault = fault;
-        conflicts = conflicts_there (turned (IsNumber things)) flat x.system back dropped k;
+        conflicts = conflicts_there (turned_pairs (IsNumber things)) flat x.system back dropped k;
         is_text = ap (λ (z : List ℕ). fault_line z (flow_fault_text (naming_of_parts p) fault)) (text_is events)
             ∙ ap (λ (z : Naming). fault_line (labels_text names x.system (labels_in p edges events))
             (flow_fault_text z fault)) h.is_flat.names;

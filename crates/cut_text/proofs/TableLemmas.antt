@@ -11,8 +11,8 @@ use Rattle.gts_core.specs.declared.system.GtsParts.{GtsParts}
 use Rattle.mode_trees.specs.Ways.{HasOwnWay, OwnTheirWays}
 use Rattle.mode_trees.specs.declared.forests.Edge.{Edge}
 use Rattle.mode_trees.specs.declared.forests.ModeTree.{ModeTree}
-use Rattle.cut_text.specs.Printed.{edges_of, HaveOneWay}
-use Rattle.cut_text.specs.Tables.{AreWaysOf, with_ways}
+use Rattle.cut_text.specs.Printed.{forest_edges, HaveOneWay}
+use Rattle.cut_text.specs.Tables.{HasEdgeWays, with_ways}
 
 set_else : {A : Type 0} (xs : List A) (i : ℕ) (v : A) (k : ℕ) (a : A) → (i ≡ k → ⊥) → Stands xs k a → Stands
     (set xs i v) k a
@@ -81,7 +81,7 @@ tabled (y ∷ xs) ways within one x o =
 
 -- the table of all edges
 pub are_ways : (xs : List Edge) (ways : List WayId) → AreWithin (length ways) xs → HaveOneWay xs
-    → AreWaysOf xs (with_ways xs ways)
+    → HasEdgeWays xs (with_ways xs ways)
 are_ways xs ways within one = record { each = λ x o. tabled xs ways within one x o }
 
 -- edges and then others
@@ -91,28 +91,28 @@ with_both (x ∷ xs) ys ways = with_both xs ys (set ways x.event.n x.way)
 
 -- an edge of a tree
 pub edge_in : (ts : List ModeTree) (t : ModeTree) (x : Edge) → IsOneOf ts t → IsOneOf t.edges.items x → IsOneOf
-    (edges_of ts) x
+    (forest_edges ts) x
 edge_in [] t x o q = absurd (one_none t o)
 edge_in (u ∷ ts) t x o q = ⊎_elim
-    (λ (i : u ≡ t). one_left u.edges.items (edges_of ts) x (subst (λ (z : ModeTree). IsOneOf z.edges.items x)
+    (λ (i : u ≡ t). one_left u.edges.items (forest_edges ts) x (subst (λ (z : ModeTree). IsOneOf z.edges.items x)
     (sym i) q))
-    (λ (r : IsOneOf ts t). one_right u.edges.items (edges_of ts) x (edge_in ts t x r q))
+    (λ (r : IsOneOf ts t). one_right u.edges.items (forest_edges ts) x (edge_in ts t x r q))
     (one_cases u ts t o)
 
-pub tree_of_edge : (ts : List ModeTree) (x : Edge) → IsOneOf (edges_of ts) x
+pub tree_of_edge : (ts : List ModeTree) (x : Edge) → IsOneOf (forest_edges ts) x
     → (t : ModeTree) × IsOneOf ts t × IsOneOf t.edges.items x
 tree_of_edge [] x o = absurd (one_none x o)
 tree_of_edge (t ∷ ts) x o = ⊎_elim
     (λ (q : IsOneOf t.edges.items x). (t, one_first t ts, q))
-    (λ (q : IsOneOf (edges_of ts) x). let r = tree_of_edge ts x q in (r.0, one_rest t ts r.0 r.1, r.2))
-    (one_split t.edges.items (edges_of ts) x o)
+    (λ (q : IsOneOf (forest_edges ts) x). let r = tree_of_edge ts x q in (r.0, one_rest t ts r.0 r.1, r.2))
+    (one_split t.edges.items (forest_edges ts) x o)
 
 -- the edges' events are those of the parts
 module _ (p : GtsParts) (sound : IsSound p) (ts : List ModeTree) (own : OwnTheirWays p ts) where
-  pub own_edge : (x : Edge) → IsOneOf (edges_of ts) x → HasOwnWay p x
+  pub own_edge : (x : Edge) → IsOneOf (forest_edges ts) x → HasOwnWay p x
   own_edge x o = let t = tree_of_edge ts x o in (own.each t.0 t.1).each x t.2
 
-  pub events_within : AreWithin (length p.events.items) (edges_of ts)
+  pub events_within : AreWithin (length p.events.items) (forest_edges ts)
   events_within = record {
     each = λ x o.
         let h = own_edge x o in
@@ -123,23 +123,23 @@ module _ (p : GtsParts) (sound : IsSound p) (ts : List ModeTree) (own : OwnTheir
 -- one tree more
 module _ (ts : List ModeTree) (i : ℕ) (t : ModeTree) (start old new : List WayId) where
   abbrev Kept : List WayId → ℕ → Type 0
-  Kept now k = (with_ways (edges_of (drop k ts)) now ≡ with_ways (edges_of ts) start) × (length now ≡ length start)
+  Kept now k = (with_ways (forest_edges (drop k ts)) now ≡ with_ways (forest_edges ts) start) × (length now ≡ length start)
 
-  pub one_more : edges_of (drop i ts) ≡ t.edges.items ++ edges_of (drop (i + 1) ts) → new ≡ with_ways t.edges.items old
+  pub one_more : forest_edges (drop i ts) ≡ t.edges.items ++ forest_edges (drop (i + 1) ts) → new ≡ with_ways t.edges.items old
       → Kept old i → Kept new (i + 1)
   one_more e n k = (
-    ap (λ (z : List WayId). with_ways (edges_of (drop (i + 1) ts)) z) n
-        ∙ sym (with_both t.edges.items (edges_of (drop (i + 1) ts)) old)
+    ap (λ (z : List WayId). with_ways (forest_edges (drop (i + 1) ts)) z) n
+        ∙ sym (with_both t.edges.items (forest_edges (drop (i + 1) ts)) old)
         ∙ ap (λ (z : List Edge). with_ways z old) (sym e) ∙ k.0,
     ap length n ∙ long t.edges.items old ∙ k.1,
   )
 
 -- the same table in another form
 pub kept_as : (ts : List ModeTree) (i : ℕ) (start new other : List WayId) → other ≡ new
-    → (with_ways (edges_of (drop i ts)) new ≡ with_ways (edges_of ts) start) × (length new ≡ length start)
-    → (with_ways (edges_of (drop i ts)) other ≡ with_ways (edges_of ts) start) × (length other ≡ length start)
+    → (with_ways (forest_edges (drop i ts)) new ≡ with_ways (forest_edges ts) start) × (length new ≡ length start)
+    → (with_ways (forest_edges (drop i ts)) other ≡ with_ways (forest_edges ts) start) × (length other ≡ length start)
 kept_as ts i start new other e k =
-    subst (λ (z : List WayId). (with_ways (edges_of (drop i ts)) z ≡ with_ways (edges_of ts) start) ×
+    subst (λ (z : List WayId). (with_ways (forest_edges (drop i ts)) z ≡ with_ways (forest_edges ts) start) ×
     (length z ≡ length start)) (sym e) k
 
 -- the event of the edge at hand is a number of the table
@@ -158,10 +158,10 @@ tree_here ts us i t e l is =
 
 -- the edges of the trees that are left begin with those of the tree at hand
 pub next_edges : (ts us : List ModeTree) (i : ℕ) (t : ModeTree) → us ≡ ts → i < length us → t ≡ get_or us i t
-    → edges_of (drop i ts) ≡ t.edges.items ++ edges_of (drop (i + 1) ts)
+    → forest_edges (drop i ts) ≡ t.edges.items ++ forest_edges (drop (i + 1) ts)
 next_edges ts us i t e l is =
-    subst (λ (z : List ModeTree). edges_of (drop i z) ≡ t.edges.items ++ edges_of (drop (i + 1) z)) e
-    (at_drop_more edges_of us i t l ∙ ap (λ (z : ModeTree). edges_of (z ∷ drop (i + 1) us)) (sym is))
+    subst (λ (z : List ModeTree). forest_edges (drop i z) ≡ t.edges.items ++ forest_edges (drop (i + 1) z)) e
+    (at_drop_more forest_edges us i t l ∙ ap (λ (z : ModeTree). forest_edges (z ∷ drop (i + 1) us)) (sym is))
 
-pub no_edges : (ts us : List ModeTree) (i : ℕ) → us ≡ ts → length us ≤ i → edges_of (drop i ts) ≡ []
-no_edges ts us i e l = subst (λ (z : List ModeTree). edges_of (drop i z) ≡ []) e (at_drop_all edges_of us i l)
+pub no_edges : (ts us : List ModeTree) (i : ℕ) → us ≡ ts → length us ≤ i → forest_edges (drop i ts) ≡ []
+no_edges ts us i e l = subst (λ (z : List ModeTree). forest_edges (drop i z) ≡ []) e (at_drop_all forest_edges us i l)

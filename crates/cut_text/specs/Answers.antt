@@ -1,7 +1,7 @@
 -- What printing answers.
 use Rattle.std.specs.Prelude.{◌≡◌, ℕ, List, Result, Ok, Err}
 use Rattle.ar_io.specs.Writing.{SinkState}
-use Rattle.ar_io.specs.WritingInside.{Writes}
+use Rattle.ar_io.specs.Handing.{Writes}
 use Rattle.cut_text.specs.declared.faults.PrintFault.{PrintFault}
 use Rattle.cut_text.specs.declared.faults.PrintFault.TheVariants.{Write, Memory}
 

@@ -20,13 +20,13 @@ use Rattle.mode_trees.specs.Ways.{OwnTheirWays}
 use Rattle.mode_trees.specs.declared.forests.Edge.{Edge}
 use Rattle.mode_trees.specs.declared.forests.ModeTree.{ModeTree}
 use Rattle.mode_trees.specs.declared.forests.Forest.{Forest}
-use Rattle.text_pieces.specs.WayLabels.{label_of, way_label}
+use Rattle.text_pieces.specs.WayLabels.{numbered_label, way_label}
 use Rattle.cut_text.specs.Texts.{braced, count_line, fault_line}
 
 -- the edges of these trees, tree by tree
-abbrev pub edges_of : List ModeTree → List Edge
-edges_of [] = []
-edges_of (t ∷ ts) = t.edges.items ++ edges_of ts
+abbrev pub forest_edges : List ModeTree → List Edge
+forest_edges [] = []
+forest_edges (t ∷ ts) = t.edges.items ++ forest_edges ts
 
 -- the number of the way of the first of these edges that has the event
 abbrev pub way_in : List Edge → ℕ → ℕ
@@ -35,7 +35,7 @@ way_in (x ∷ xs) e = if x.event.n == e then x.way.n else way_in xs e
 
 -- the labels of the edges of these events
 abbrev pub labels_in : GtsParts → List Edge → List ℕ → List Label
-labels_in p edges events = map (λ e. label_of p (way_in edges e)) events
+labels_in p edges events = map (λ e. numbered_label p (way_in edges e)) events
 
 -- the text of these events: the labels of their edges in braces
 abbrev pub events_text : GtsParts → List Edge → List ℕ → List ℕ

@@ -12,11 +12,11 @@ use Rattle.mode_trees.specs.declared.forests.Edge.{Edge}
 use Rattle.stepper.specs.declared.faults.StepFault.{StepFault}
 use Rattle.stepper.specs.declared.faults.StepFault.TheVariants as step
 use Rattle.ar_base.specs.declared.faults.Memory.{Memory}
-use Rattle.text_pieces.specs.WayLabels.{label_of, way_label}
+use Rattle.text_pieces.specs.WayLabels.{numbered_label, way_label}
 use Rattle.cut_text.specs.Texts.{braced}
 
 -- the table has the way of each of these edges at the number of its event
-pub record AreWaysOf (edges : List Edge) (ways : List WayId) : Type 0 where
+pub record HasEdgeWays (edges : List Edge) (ways : List WayId) : Type 0 where
   pub each : (x : Edge) → IsOneOf edges x
       → (way : WayId) × Stands ways x.event.n way × (way.n ≡ x.way.n)
 
@@ -35,7 +35,7 @@ texts_at p ways events = map (λ e. way_label p (way_at ways e)) events
 
 -- the labels of the ways of these events
 abbrev pub labels_at : GtsParts → List WayId → List ℕ → List Label
-labels_at p ways events = map (λ e. label_of p (way_at ways e)) events
+labels_at p ways events = map (λ e. numbered_label p (way_at ways e)) events
 
 -- the lines of these sets
 abbrev pub lines_at : GtsParts → List WayId → List (List ℕ) → List ℕ

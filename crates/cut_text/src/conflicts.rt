@@ -6,7 +6,7 @@ ghost use Rattle.ar_meaning.specs.Systems.{System};
 ghost use Rattle.ar_firing.specs.Cuts.{Conflicts};
 ghost use Rattle.gts_core.specs.View.{Views};
 ghost use Rattle.text_pieces.specs.Faults.{IsInRange};
-ghost use Rattle.min_cuts.specs.Kept.{numbers};
+ghost use Rattle.min_cuts.specs.Kept.{numbers_of_set};
 ghost use Rattle.cut_text.specs.Tables.{labels_at, HaveWays, IsMet, TellsFlow};
 
 use ar_base::{EventId, Memory, WayId};
@@ -23,10 +23,10 @@ pub(crate) fn fault_met(
     ways: &[WayId],
     events: &[EventId],
 ) -> Result<Option<FlowFault>, Memory>
-    requires { HaveWays gts.now ways.now (numbers events.now) }
+    requires { HaveWays gts.now ways.now (numbers_of_set events.now) }
     ensures range { IfOk result (λ found. IfSome found (IsInRange gts.now)) }
     ensures met { (system : System ℕ) → Views gts.now system → (dropped : List ℕ) (fault : MetFault)
-        → Conflicts system dropped (reverse (labels_at gts.now ways.now (numbers events.now))) fault
+        → Conflicts system dropped (reverse (labels_at gts.now ways.now (numbers_of_set events.now))) fault
         → IfOk result (IsMet fault) }
 {
     let _sound_parts = gts.parts();

@@ -1,7 +1,7 @@
 //! The lines of a forest.
 
 ghost use Rattle.std.specs.Prelude.{◌≡◌, ◌<◌, ◌^◌};
-ghost use Rattle.ar_io.specs.WritingInside.{Writes};
+ghost use Rattle.ar_io.specs.Handing.{Writes};
 ghost use Rattle.mode_trees.specs.Ways.{HasOwnWay, HaveOwnWays, OwnTheirWays};
 ghost use Rattle.cut_text.specs.ForestPrinted.{edge_line, edge_lines, tree_line, trees_text, edge_count, forest_text};
 

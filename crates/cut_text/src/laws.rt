@@ -26,7 +26,7 @@ ghost use Rattle.mode_trees.specs.Views.{trees_of};
 ghost use Rattle.mode_trees.specs.declared.forests.Forest.{Forest as TheForest};
 ghost use Rattle.min_cuts.specs.Lines.{AreInFiringOrder};
 ghost use Rattle.min_cuts.specs.Sizes.{count};
-ghost use Rattle.cut_text.specs.Printed.{edges_of, labels_in, cuts_text, conflict_text, things_of};
+ghost use Rattle.cut_text.specs.Printed.{forest_edges, labels_in, cuts_text, conflict_text, things_of};
 ghost use Rattle.cut_text.specs.Printed.{HaveOneWay, AreOfEdges, IsForestOf};
 ghost use Rattle.cut_text.specs.Texts.{IsCutText, IsConflictText};
 
@@ -40,10 +40,10 @@ pub fn edges_of_forests()
         → AreTrees (trees_of (λ n. n) f) }
     ensures one_way { (system : System ℕ) (dropped : List ℕ) → IsKeyedStatic system dropped
         → (number : ℕ → ℕ) (f : TheForest) → IsForest system dropped (trees_of number f)
-        → HaveOneWay (edges_of f.trees.items) }
+        → HaveOneWay (forest_edges f.trees.items) }
     ensures known { (f : TheForest) (sets lists : List (List ℕ))
         → AreInFiringOrder (trees_of (λ n. n) f) sets lists
-        → AreOfEdges (edges_of f.trees.items) lists }
+        → AreOfEdges (forest_edges f.trees.items) lists }
 {}
 
 /// The text of cuts and of a conflict over a flat system is that of its source.
@@ -60,7 +60,7 @@ pub fn cuts_of_the_source()
         (sets lists : List (List ℕ)) → AreListed (AndUpTo order (Cut flat dropped other wanted)) sets
         → AreInFiringOrder (trees_of (λ n. n) f) sets lists
         → IsCutText order (naming_of x.declarations) x.system dropped observer wanted
-        (cuts_text p (edges_of f.trees.items) order lists (count sets)) }
+        (cuts_text p (forest_edges f.trees.items) order lists (count sets)) }
     ensures conflicts_of_the_source { (x : Elaborated) (p : GtsParts) (flat : System ℕ) (dropped : List ℕ)
         (f : TheForest) → IsForestOf x p flat dropped f → (other : Expr ℕ) (wanted : Value)
         (conflict top : List ℕ → Bool) → Agrees flat dropped other wanted conflict top
@@ -68,15 +68,15 @@ pub fn cuts_of_the_source()
         → AreListed (AndUpTo order (ConflictSet flat dropped)) (set ∷ sets)
         → AreInFiringOrder (trees_of (λ n. n) f) (set ∷ sets) (events ∷ lists)
         → (fault : FlowFault)
-        × Conflicts flat dropped (reverse (labels_in p (edges_of f.trees.items) events)) fault }
+        × Conflicts flat dropped (reverse (labels_in p (forest_edges f.trees.items) events)) fault }
     ensures conflict_text_of_the_source { (x : Elaborated) (p : GtsParts) (flat : System ℕ) (dropped : List ℕ)
         (f : TheForest) → IsForestOf x p flat dropped f
         → (order : Option ℕ) (set : List ℕ) (sets : List (List ℕ)) (events : List ℕ) (lists : List (List ℕ))
         (fault : FlowFault) → AreListed (AndUpTo order (ConflictSet flat dropped)) (set ∷ sets)
         → AreInFiringOrder (trees_of (λ n. n) f) (set ∷ sets) (events ∷ lists)
-        → Conflicts flat dropped (reverse (labels_in p (edges_of f.trees.items) events)) fault
+        → Conflicts flat dropped (reverse (labels_in p (forest_edges f.trees.items) events)) fault
         → IsConflictText order (naming_of x.declarations) x.system dropped
-        (conflict_text p (edges_of f.trees.items) events fault) }
+        (conflict_text p (forest_edges f.trees.items) events fault) }
     ensures lines_of_the_source_replay { (x : Elaborated) (p : GtsParts) (flat : System ℕ) (dropped : List ℕ) (f : TheForest)
         → IsForestOf x p flat dropped f → (observer : Expr Thing) (other : Expr ℕ)
         → Expr_renames (IsNumber (things_of x)) observer other

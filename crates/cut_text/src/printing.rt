@@ -2,7 +2,7 @@
 
 ghost use Rattle.std.specs.Prelude.{◌≡◌, ℕ, List, ◌∷◌, Some, true, false, codes, reverse};
 ghost use Rattle.ar_base.specs.Texts.{separated};
-ghost use Rattle.ar_io.specs.WritingInside.{Writes};
+ghost use Rattle.ar_io.specs.Handing.{Writes};
 ghost use Rattle.ar_meaning.specs.Flows.{FlowFault as MetFault};
 ghost use Rattle.ar_meaning.specs.Systems.{System};
 ghost use Rattle.ar_meaning.specs.TraceText.{flow_fault_text};
@@ -13,9 +13,9 @@ ghost use Rattle.gts_flatten.specs.Flat.{naming_of_parts};
 ghost use Rattle.mode_trees.specs.Ways.{OwnTheirWays};
 ghost use Rattle.text_pieces.specs.WayLabels.{way_label};
 ghost use Rattle.text_pieces.specs.Faults.{IsInRange};
-ghost use Rattle.min_cuts.specs.Kept.{numbers};
+ghost use Rattle.min_cuts.specs.Kept.{numbers_of_set};
 ghost use Rattle.cut_text.specs.Answers.{Prints};
-ghost use Rattle.cut_text.specs.Printed.{edges_of, labels_in, cuts_text, conflict_text};
+ghost use Rattle.cut_text.specs.Printed.{forest_edges, labels_in, cuts_text, conflict_text};
 ghost use Rattle.cut_text.specs.Printed.{HaveOneWay, AreOfEdges};
 ghost use Rattle.cut_text.specs.Texts.{braced, count_line, fault_line, order_end};
 ghost use Rattle.cut_text.specs.Tables.{texts_at, lines_at, way_at, HasWay, HaveWays, AllHaveWays};
@@ -46,10 +46,10 @@ pub fn print_cuts<K: Sink>(
     out: &mut K,
 ) -> Result<(), PrintFault>
     requires own { OwnTheirWays gts.now forest.now.trees.items }
-    requires one_way { HaveOneWay (edges_of forest.now.trees.items) }
-    requires known { AreOfEdges (edges_of forest.now.trees.items) lister }
+    requires one_way { HaveOneWay (forest_edges forest.now.trees.items) }
+    requires known { AreOfEdges (forest_edges forest.now.trees.items) lister }
     ensures { Prints (K.state out.old) (K.state out.new)
-        (cuts_text gts.now (edges_of forest.now.trees.items) order lister count) result }
+        (cuts_text gts.now (forest_edges forest.now.trees.items) order lister count) result }
 {
     let ways = event_ways(alloc, gts, forest)?;
     set_lines(out, gts, &ways, &mut lister)?;
@@ -69,14 +69,14 @@ pub fn print_conflict<K: Sink>(
     out: &mut K,
 ) -> Result<(), PrintFault>
     requires own { OwnTheirWays gts.now forest.now.trees.items }
-    requires one_way { HaveOneWay (edges_of forest.now.trees.items) }
-    requires known { AreOfEdges (edges_of forest.now.trees.items) lister }
+    requires one_way { HaveOneWay (forest_edges forest.now.trees.items) }
+    requires known { AreOfEdges (forest_edges forest.now.trees.items) lister }
     ensures { (system : System ℕ) → Views gts.now system → (dropped events : List ℕ)
         (later : List (List ℕ)) (fault : MetFault) → lister ≡ events ∷ later
         → Conflicts system dropped
-        (reverse (labels_in gts.now (edges_of forest.now.trees.items) events)) fault
+        (reverse (labels_in gts.now (forest_edges forest.now.trees.items) events)) fault
         → Prints (K.state out.old) (K.state out.new)
-        (conflict_text gts.now (edges_of forest.now.trees.items) events fault) result }
+        (conflict_text gts.now (forest_edges forest.now.trees.items) events fault) result }
 {
     let ways = event_ways(alloc, gts, forest)?;
     // There is a first set, and it meets a fault: with none there would be nothing to write.
@@ -116,10 +116,10 @@ fn fault_line<K: Sink>(
     events: &[EventId],
     fault: FlowFault,
 ) -> Result<(), SinkFailed>
-    requires ways { HaveWays gts.now ways.now (numbers events.now) }
+    requires ways { HaveWays gts.now ways.now (numbers_of_set events.now) }
     requires range { IsInRange gts.now fault }
     ensures { Writes (K.state out.old) (K.state out.new)
-        (fault_line (braced (texts_at gts.now ways.now (numbers events.now)))
+        (fault_line (braced (texts_at gts.now ways.now (numbers_of_set events.now)))
         (flow_fault_text (naming_of_parts gts.now) (fault_of fault))) result }
 {
     write_text(out, "fault: ")?;
@@ -165,9 +165,9 @@ pub fn write_set<K: Sink>(
     ways: &[WayId],
     events: &[EventId],
 ) -> Result<(), SinkFailed>
-    requires { HaveWays gts.now ways.now (numbers events.now) }
+    requires { HaveWays gts.now ways.now (numbers_of_set events.now) }
     ensures { Writes (K.state out.old) (K.state out.new)
-        (braced (texts_at gts.now ways.now (numbers events.now))) result }
+        (braced (texts_at gts.now ways.now (numbers_of_set events.now))) result }
 {
     write_text(out, "{")?;
     labels(out, gts, ways, events)?;
@@ -181,9 +181,9 @@ fn labels<K: Sink>(
     ways: &[WayId],
     events: &[EventId],
 ) -> Result<(), SinkFailed>
-    requires { HaveWays gts.now ways.now (numbers events.now) }
+    requires { HaveWays gts.now ways.now (numbers_of_set events.now) }
     ensures { Writes (K.state out.old) (K.state out.new)
-        (separated true (codes ", ") (texts_at gts.now ways.now (numbers events.now))) result }
+        (separated true (codes ", ") (texts_at gts.now ways.now (numbers_of_set events.now))) result }
 {
     let Some((first, others)) = events.split_first() else {
         return Ok(());
@@ -199,9 +199,9 @@ fn more_labels<K: Sink>(
     ways: &[WayId],
     events: &[EventId],
 ) -> Result<(), SinkFailed>
-    requires { HaveWays gts.now ways.now (numbers events.now) }
+    requires { HaveWays gts.now ways.now (numbers_of_set events.now) }
     ensures { Writes (K.state out.old) (K.state out.new)
-        (separated false (codes ", ") (texts_at gts.now ways.now (numbers events.now))) result }
+        (separated false (codes ", ") (texts_at gts.now ways.now (numbers_of_set events.now))) result }
 {
     for event in events {
         write_text(out, ", ")?;

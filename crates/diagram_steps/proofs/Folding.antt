@@ -2,25 +2,25 @@
 use Rattle.std.proofs.Common.{◌≡◌, ℕ, zero, suc, ◌+◌, ◌≤◌, Bool, true, false, cond, ◌&&◌, ◌||◌, List, [], ◌∷◌, drop, length, refl, sym, ap, ap₂, ◌∙◌, arith}
 use Rattle.std.specs.Int.{from_bool}
 use Rattle.ar_base.specs.Lists.{Stands}
-use Rattle.mode_nodes.specs.Diagrams.{DiagramId, Stored, value, IsNumber}
-use Rattle.mode_nodes.specs.Bounds.{Bounded, Allows, GrowsWithin}
+use Rattle.mode_nodes.specs.Diagrams.{DiagramId, StoredDiagrams, value, IsDiagramNumber}
+use Rattle.mode_nodes.specs.Bounds.{Bounded, AreAffordable, GrowsWithin}
 use Rattle.mode_nodes.proofs.Allowed.{GrowsWithin-none, GrowsWithin-then, allowed}
 use Rattle.mode_nodes.proofs.Growing.{kept}
 use Rattle.mode_nodes.proofs.Values.{value-false, value-true}
-use Rattle.diagram_steps.specs.Joints.{joint_value, IsJoint}
+use Rattle.diagram_steps.specs.Joints.{joint_value, IsDiagramJoint}
 
 -- r has the values of both, or of either, at the modes that cost no more than is enough
-pub record IsJoined (both : Bool) (s : Bounded) (m n : ℕ) (t : Stored) (r : ℕ) : Type 0 where
-  pub number : IsNumber t r
-  pub same : (modes : List ℕ) → Allows s modes → value t modes r
+pub record IsJoined (both : Bool) (s : Bounded) (m n : ℕ) (t : StoredDiagrams) (r : ℕ) : Type 0 where
+  pub number : IsDiagramNumber t r
+  pub same : (modes : List ℕ) → AreAffordable s modes → value t modes r
       ≡ cond both (value s.store modes m && value s.store modes n) (value s.store modes m || value s.store modes n)
 
 -- the diagrams from place `left` on are joined
 pub record IsFolded (all : Bool) (old : Bounded) (ns : List DiagramId) (left : ℕ) (s : Bounded) (n : ℕ) : Type 0 where
   pub left_in : left ≤ length ns
   pub grows : GrowsWithin old s
-  pub number : IsNumber s.store n
-  pub same : (modes : List ℕ) → Allows old modes → value s.store modes n ≡ joint_value all old.store modes (drop left ns)
+  pub number : IsDiagramNumber s.store n
+  pub same : (modes : List ℕ) → AreAffordable old modes → value s.store modes n ≡ joint_value all old.store modes (drop left ns)
 
 drop_at : (ns : List DiagramId) (k : ℕ) (n : DiagramId) → Stands ns k n → drop k ns ≡ n ∷ drop (k + 1) ns
 drop_at [] k n st = let wrong : ⊥ = cc in absurd wrong
@@ -53,7 +53,7 @@ folded_none false old ns left n e neutral = record {
 }
 
 pub folded_more : (all : Bool) (old : Bounded) (ns : List DiagramId) (left : ℕ) (s t : Bounded) (m : DiagramId) (n r : ℕ)
-    → Stands ns left m → IsNumber old.store m.n → IsFolded all old ns (left + 1) s n → GrowsWithin s t
+    → Stands ns left m → IsDiagramNumber old.store m.n → IsFolded all old ns (left + 1) s n → GrowsWithin s t
     → IsJoined all s m.n n t.store r → IsFolded all old ns left t r
 folded_more true old ns left s t m n r st low f a j = record {
   left_in = omega (arith, f.left_in);
@@ -73,7 +73,7 @@ folded_more false old ns left s t m n r st low f a j = record {
 }
 
 pub folded_all : (all : Bool) (old : Bounded) (ns : List DiagramId) (left : ℕ) (s : Bounded) (n : ℕ) → left ≡ 0
-    → IsFolded all old ns left s n → IsJoint all old ns s.store n
+    → IsFolded all old ns left s n → IsDiagramJoint all old ns s.store n
 folded_all all old ns left s n e f = record {
   number = f.number;
   same = λ modes h. f.same modes h ∙ ap (λ k. joint_value all old.store modes (drop k ns)) e;

@@ -9,8 +9,8 @@ use Rattle.ar_base.specs.Lists.{Stands, IsOneOf}
 use Rattle.ar_base.proofs.Standing.{stands_one, stands_within, stands_get, stands_item, one_none, one_cases, one_first, one_rest}
 use Rattle.diagram_steps.specs.declared.trees.NumberedEdge.{NumberedEdge}
 use Rattle.diagram_steps.specs.declared.trees.NumberedTree.{NumberedTree}
-use Rattle.diagram_steps.specs.Trees.{edges_of, HasEvent}
-use Rattle.diagram_steps.specs.Order.{IsBefore, Ascend, AreSeparate, HasOverlap, HasBelow, IsEnd, least_from, least_event}
+use Rattle.diagram_steps.specs.Trees.{edges_of, TreeHasEvent}
+use Rattle.diagram_steps.specs.Order.{IsTreeBefore, Ascend, AreSeparate, HasOverlap, HasEventBelow, IsTreeEnd, least_from, least_event}
 
 -- the item at a place, as a list has it by a number
 pub stands_is : {A : Type 0} (xs : List A) (n : ℕ) (a d : A) → Stands xs n a → a ≡ get_or xs n d
@@ -95,7 +95,7 @@ least_has : (es : List NumberedEdge) (x : NumberedEdge) → IsOneOf es x
 least_has [] x o = absurd (one_none x o)
 least_has (e ∷ es) x o = ⊎_elim (λ p. (e, one_first e es, sym p)) (λ p. p) (least_is e.event.n (e ∷ es)).is
 
-least_low : (tree : NumberedTree) (e : ℕ) → HasEvent tree e → least_event (edges_of tree) ≤ e
+least_low : (tree : NumberedTree) (e : ℕ) → TreeHasEvent tree e → least_event (edges_of tree) ≤ e
 least_low tree e h = let l = low_in (edges_of tree) h.edge h.one in omega (arith, l, h.is)
 
 -- ---- trees that are exchanged stay separate
@@ -168,9 +168,9 @@ not_separate trees o h s =
 -- ---- tree after tree: the first k trees ascend, and end before this number
 pub record AreFirst (trees : List NumberedTree) (k end : ℕ) : Type 0 where
   pub range : end ≤ 4294967296
-  pub ascend : (i j : ℕ) (s t : NumberedTree) → i < j → j < k → Stands trees i s → Stands trees j t → IsBefore s t
-  pub below : (i : ℕ) (s : NumberedTree) (e : ℕ) → i < k → Stands trees i s → HasEvent s e → e < end
-  pub is : (end ≡ 0) ⊎ ((i : ℕ) × (s : NumberedTree) × (e : ℕ) × (i < k) × Stands trees i s × HasEvent s e × (e + 1 ≡ end))
+  pub ascend : (i j : ℕ) (s t : NumberedTree) → i < j → j < k → Stands trees i s → Stands trees j t → IsTreeBefore s t
+  pub below : (i : ℕ) (s : NumberedTree) (e : ℕ) → i < k → Stands trees i s → TreeHasEvent s e → e < end
+  pub is : (end ≡ 0) ⊎ ((i : ℕ) × (s : NumberedTree) × (e : ℕ) × (i < k) × Stands trees i s × TreeHasEvent s e × (e + 1 ≡ end))
 
 pub first_none : (trees : List NumberedTree) → AreFirst trees 0 0
 first_none trees = record {
@@ -181,7 +181,7 @@ first_none trees = record {
 }
 
 pub first_more : (trees : List NumberedTree) (k end more : ℕ) (tree : NumberedTree) → Stands trees k tree
-    → ((e : ℕ) → HasEvent tree e → end ≤ e) → IsEnd tree end more → more ≤ 4294967296 → AreFirst trees k end
+    → ((e : ℕ) → TreeHasEvent tree e → end ≤ e) → IsTreeEnd tree end more → more ≤ 4294967296 → AreFirst trees k end
     → AreFirst trees (k + 1) more
 first_more trees k end more tree st low x range f = record {
   range = range;
@@ -191,7 +191,7 @@ first_more trees k end more tree st low x range f = record {
         each = λ p q hp hq.
             let same : t ≡ tree = stands_one trees k t tree (subst (λ n. Stands trees n t) h sj) st in
             let u = f.below i s p (omega (arith, a, h)) si hp in
-            let v = low q (subst (λ (y : NumberedTree). HasEvent y q) same hq) in
+            let v = low q (subst (λ (y : NumberedTree). TreeHasEvent y q) same hq) in
             omega (arith, u, v);
       })
       (at_most j b);
@@ -199,7 +199,7 @@ first_more trees k end more tree st low x range f = record {
       (λ (h : i < k). let u = f.below i s e h si he in omega (arith, u, x.no_less))
       (λ (h : i ≡ k).
       let same : s ≡ tree = stands_one trees k s tree (subst (λ n. Stands trees n s) h si) st in
-      x.above e (subst (λ (y : NumberedTree). HasEvent y e) same he))
+      x.above e (subst (λ (y : NumberedTree). TreeHasEvent y e) same he))
       (at_most i a);
   is = ⊎_elim
       (λ e. ⊎_elim
@@ -219,7 +219,7 @@ first_all trees k end h f = record {
       let w = stands_within trees j t sj in f.ascend i j s t a (omega (arith, w, h)) si sj;
 }
 
-pub first_overlap : (trees : List NumberedTree) (k end : ℕ) (tree : NumberedTree) → Stands trees k tree → HasBelow tree end
+pub first_overlap : (trees : List NumberedTree) (k end : ℕ) (tree : NumberedTree) → Stands trees k tree → HasEventBelow tree end
     → AreFirst trees k end → HasOverlap trees
 first_overlap trees k end tree st h f = ⊎_elim
     (λ e. let w : ⊥ = omega (arith, e, h.below) in absurd w)
@@ -253,7 +253,7 @@ from_more edges k end edge st h f j e a sj = ⊎_elim
     (same_or j k)
 
 pub from_all : (tree : NumberedTree) (k end : ℕ) → length (edges_of tree) ≤ k → AreFrom (edges_of tree) k end → (e : ℕ)
-    → HasEvent tree e → end ≤ e
+    → TreeHasEvent tree e → end ≤ e
 from_all tree k end h f e x =
     let w = stands_within (edges_of tree) x.one.place x.edge x.one.stands in
     let l = f x.one.place x.edge (omega (arith, w, h)) x.one.stands in
@@ -263,7 +263,7 @@ pub record IsEndAt (tree : NumberedTree) (start k end : ℕ) : Type 0 where
   pub range : end ≤ 4294967296
   pub no_less : start ≤ end
   pub above : (j : ℕ) (e : NumberedEdge) → j < k → Stands (edges_of tree) j e → e.event.n < end
-  pub is : (start ≡ end) ⊎ ((e : ℕ) × HasEvent tree e × (e + 1 ≡ end))
+  pub is : (start ≡ end) ⊎ ((e : ℕ) × TreeHasEvent tree e × (e + 1 ≡ end))
 
 pub end_none : (tree : NumberedTree) (start : ℕ) → start ≤ 4294967296 → IsEndAt tree start 0 start
 end_none tree start h = record {
@@ -303,7 +303,7 @@ end_more tree start k end edge st h range x = record {
 }
 
 pub end_all : (tree : NumberedTree) (start k end : ℕ) → length (edges_of tree) ≤ k → IsEndAt tree start k end
-    → IsEnd tree start end
+    → IsTreeEnd tree start end
 end_all tree start k end h x = record {
   no_less = x.no_less;
   above = λ e y.

@@ -3,20 +3,20 @@ use Rattle.std.specs.Prelude.{◌≡◌, ◌⊎◌, ◌+◌, ◌<◌, ◌≤◌,
 use Rattle.ar_base.specs.Lists.{Stands}
 use Rattle.diagram_steps.specs.declared.trees.NumberedEdge.{NumberedEdge}
 use Rattle.diagram_steps.specs.declared.trees.NumberedTree.{NumberedTree}
-use Rattle.diagram_steps.specs.Trees.{HasEvent}
+use Rattle.diagram_steps.specs.Trees.{TreeHasEvent}
 
 -- all events of the first tree are below those of the second
-pub record IsBefore (s t : NumberedTree) : Type 0 where
-  pub each : (a b : ℕ) → HasEvent s a → HasEvent t b → a < b
+pub record IsTreeBefore (s t : NumberedTree) : Type 0 where
+  pub each : (a b : ℕ) → TreeHasEvent s a → TreeHasEvent t b → a < b
 
 -- each tree is before all trees after it
 pub record Ascend (trees : List NumberedTree) : Type 0 where
-  pub each : (j k : ℕ) (s t : NumberedTree) → j < k → Stands trees j s → Stands trees k t → IsBefore s t
+  pub each : (j k : ℕ) (s t : NumberedTree) → j < k → Stands trees j s → Stands trees k t → IsTreeBefore s t
 
 -- of any two of the trees one is before the other
 pub record AreSeparate (trees : List NumberedTree) : Type 0 where
   pub each : (j k : ℕ) (s t : NumberedTree) → (j ≡ k → ⊥) → Stands trees j s → Stands trees k t
-      → IsBefore s t ⊎ IsBefore t s
+      → IsTreeBefore s t ⊎ IsTreeBefore t s
 
 -- a tree has an event that is not below one of a later tree
 pub record HasOverlap (trees : List NumberedTree) : Type 0 where
@@ -29,21 +29,21 @@ pub record HasOverlap (trees : List NumberedTree) : Type 0 where
   pub second_stands : Stands trees later second
   pub high : ℕ
   pub low : ℕ
-  pub has_high : HasEvent first high
-  pub has_low : HasEvent second low
+  pub has_high : TreeHasEvent first high
+  pub has_low : TreeHasEvent second low
   pub no_less : low ≤ high
 
 -- the tree has an event below this number
-pub record HasBelow (tree : NumberedTree) (end : ℕ) : Type 0 where
+pub record HasEventBelow (tree : NumberedTree) (end : ℕ) : Type 0 where
   pub event : ℕ
-  pub has : HasEvent tree event
+  pub has : TreeHasEvent tree event
   pub below : event < end
 
 -- one more than the greatest of the tree's events, unless that is below `start`
-pub record IsEnd (tree : NumberedTree) (start end : ℕ) : Type 0 where
+pub record IsTreeEnd (tree : NumberedTree) (start end : ℕ) : Type 0 where
   pub no_less : start ≤ end
-  pub above : (e : ℕ) → HasEvent tree e → e < end
-  pub is : (start ≡ end) ⊎ ((e : ℕ) × HasEvent tree e × (e + 1 ≡ end))
+  pub above : (e : ℕ) → TreeHasEvent tree e → e < end
+  pub is : (start ≡ end) ⊎ ((e : ℕ) × TreeHasEvent tree e × (e + 1 ≡ end))
 
 -- the least of a number and the events of these edges
 abbrev pub least_from : ℕ → List NumberedEdge → ℕ

@@ -9,7 +9,7 @@ abbrev pub edges_of : NumberedTree → List NumberedEdge
 edges_of tree = tree.edges.items
 
 -- an edge of the tree is one of the event
-pub record HasEvent (tree : NumberedTree) (e : ℕ) : Type 0 where
+pub record TreeHasEvent (tree : NumberedTree) (e : ℕ) : Type 0 where
   pub edge : NumberedEdge
   pub one : IsOneOf (edges_of tree) edge
   pub is : edge.event.n ≡ e

@@ -2,8 +2,8 @@
 
 ghost use Rattle.std.specs.Prelude.{◌≡◌, ◌≤◌, ◌<◌, ℕ, IfOk, IfSome, None, true, false};
 ghost use Rattle.std.specs.List.Sorted.{IsPermutation};
-ghost use Rattle.diagram_steps.specs.Trees.{edges_of, HasEvent};
-ghost use Rattle.diagram_steps.specs.Order.{Ascend, AreSeparate, HasOverlap, HasBelow, IsEnd};
+ghost use Rattle.diagram_steps.specs.Trees.{edges_of, TreeHasEvent};
+ghost use Rattle.diagram_steps.specs.Order.{Ascend, AreSeparate, HasOverlap, HasEventBelow, IsTreeEnd};
 ghost use Rattle.diagram_steps.specs.Order.{least_event as least};
 
 use crate::trees::NumberedTree;
@@ -58,8 +58,8 @@ fn ascend(trees: &[NumberedTree]) -> bool
 
 // Whether the tree has an event below this number.
 fn has_below(tree: &NumberedTree, end: u64) -> bool
-    ensures yes { result ≡ true → HasBelow tree.now end }
-    ensures no { result ≡ false → (e : ℕ) → HasEvent tree.now e → end ≤ e }
+    ensures yes { result ≡ true → HasEventBelow tree.now end }
+    ensures no { result ≡ false → (e : ℕ) → TreeHasEvent tree.now e → end ≤ e }
 {
     for edge in &tree.edges {
         if u64::from(edge.event.n) < end {
@@ -73,7 +73,7 @@ fn has_below(tree: &NumberedTree, end: u64) -> bool
 fn end_of(tree: &NumberedTree, start: u64) -> u64
     requires { start ≤ 4294967296 }
     ensures range { result ≤ 4294967296 }
-    ensures end { IsEnd tree.now start result }
+    ensures end { IsTreeEnd tree.now start result }
 {
     let mut end = start;
     for edge in &tree.edges {

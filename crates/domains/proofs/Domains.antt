@@ -5,7 +5,7 @@ use Rattle.std.proofs.lemmas.Bool.Decides.{nat_tests}
 use Rattle.std.proofs.lemmas.Int.{ints}
 use Rattle.domains.specs.Values.{is_before}
 use Rattle.domains.specs.Domains.{IsDomain, Holds, values_of}
-use Rattle.domains.specs.DomainsInside.{IsAt}
+use Rattle.domains.specs.DomainsInside.{IsValueAt}
 use Rattle.domains.specs.declared.Value.{Value}
 use Rattle.domains.specs.declared.Value.TheVariants.{Truth, Whole, Symbol}
 use Rattle.domains.specs.declared.Domain.{Domain}
@@ -14,7 +14,7 @@ use Rattle.domains.proofs.Members.{contains-head, contains-cons, contains-cases,
 use Rattle.domains.proofs.Ranks.{rank-one, rank-lt}
 
 -- a value has one position
-pub one_position : (d : Domain) (v : Value) (p q : ℕ) → IsAt d v p → IsAt d v q → p ≡ q
+pub one_position : (d : Domain) (v : Value) (p q : ℕ) → IsValueAt d v p → IsValueAt d v q → p ≡ q
 one_position Boolean (Truth b) p q h k = h ∙ sym k
 one_position Boolean (Whole n) p q h k = absurd h
 one_position Boolean (Symbol s) p q h k = absurd h
@@ -26,7 +26,7 @@ one_position (Range low high) (Whole n) p q h k = omega (arith, ints)
 one_position (Range low high) (Symbol s) p q h k = absurd h
 
 -- a position has one value
-pub one_value : (d : Domain) (v w : Value) (p : ℕ) → IsDomain d → Holds d v → Holds d w → IsAt d v p → IsAt d w p
+pub one_value : (d : Domain) (v w : Value) (p : ℕ) → IsDomain d → Holds d v → Holds d w → IsValueAt d v p → IsValueAt d w p
     → v ≡ w
 one_value Boolean (Truth true) (Truth true) p i a b h k = refl
 one_value Boolean (Truth true) (Truth false) p i a b h k = absurd (omega (arith, h, k))
@@ -48,7 +48,7 @@ one_value (Range low high) (Whole n) (Truth c) p i a b h k = absurd b
 one_value (Range low high) (Whole n) (Symbol s) p i a b h k = absurd b
 
 -- positions follow the order of values
-pub in_order : (d : Domain) (v w : Value) (p q : ℕ) → Holds d v → Holds d w → IsAt d v p → IsAt d w q
+pub in_order : (d : Domain) (v w : Value) (p q : ℕ) → Holds d v → Holds d w → IsValueAt d v p → IsValueAt d w q
     → is_before v w ≡ true → p < q
 in_order Boolean (Truth true) (Truth true) p q a b h k l = cc
 in_order Boolean (Truth true) (Truth false) p q a b h k l = cc

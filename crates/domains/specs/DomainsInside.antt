@@ -7,16 +7,16 @@ use Rattle.domains.specs.declared.Domain.{Domain}
 use Rattle.domains.specs.declared.Domain.TheVariants.{Boolean, Symbols, Range}
 
 -- p values of the domain come before the value, in the order of values
-abbrev pub IsAt : Domain → Value → ℕ → Type 0
-IsAt Boolean (Truth b) p = p ≡ (if b then 1 else 0)
-IsAt Boolean (Whole n) p = ⊥
-IsAt Boolean (Symbol s) p = ⊥
-IsAt (Symbols symbols) (Truth b) p = ⊥
-IsAt (Symbols symbols) (Whole n) p = ⊥
-IsAt (Symbols symbols) (Symbol s) p = p ≡ count_by (λ x. nat_lt x s) symbols.items
-IsAt (Range low high) (Truth b) p = ⊥
-IsAt (Range low high) (Whole n) p = n ≡ (low +ℤ pos p)
-IsAt (Range low high) (Symbol s) p = ⊥
+abbrev pub IsValueAt : Domain → Value → ℕ → Type 0
+IsValueAt Boolean (Truth b) p = p ≡ (if b then 1 else 0)
+IsValueAt Boolean (Whole n) p = ⊥
+IsValueAt Boolean (Symbol s) p = ⊥
+IsValueAt (Symbols symbols) (Truth b) p = ⊥
+IsValueAt (Symbols symbols) (Whole n) p = ⊥
+IsValueAt (Symbols symbols) (Symbol s) p = p ≡ count_by (λ x. nat_lt x s) symbols.items
+IsValueAt (Range low high) (Truth b) p = ⊥
+IsValueAt (Range low high) (Whole n) p = n ≡ (low +ℤ pos p)
+IsValueAt (Range low high) (Symbol s) p = ⊥
 
 -- the domain has more than p values
 abbrev pub HasMore : Domain → ℕ → Type 0

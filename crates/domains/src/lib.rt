@@ -4,7 +4,7 @@
 ghost use Rattle.std.specs.Prelude.{true, false, ◌≡◌, ◌<◌, ◌≤◌, ◌↔◌, ◌≢◌, ◌==◌, ℕ, IsTrue, IsSome, IfOk, IfSome, IfNone, Contains, count_by, nat_lt, length, ◌+ℤ◌, ◌-ℤ◌, ◌*ℤ◌};
 ghost use Rattle.std.specs.Int.{saturate_signed, w64};
 ghost use Rattle.domains.specs.Domains.{IsDomain, Holds, values_of};
-ghost use Rattle.domains.specs.DomainsInside.{IsAt, HasMore};
+ghost use Rattle.domains.specs.DomainsInside.{IsValueAt, HasMore};
 ghost use Rattle.domains.specs.SameInside.{IsSameDomain};
 ghost use Rattle.domains.specs.Values.{is_before, truth_of, whole_of};
 ghost use Rattle.domains.specs.declared.Value.{Value};
@@ -93,11 +93,11 @@ pub fn multiply(a: i64, b: i64) -> i64
 /// The laws of domains: a value has one position and a position one value, positions follow the
 /// order of values, and what a domain holds is what stands in the list of its values.
 pub fn domain_laws()
-    ensures one_position { (d : Domain) (v : Value) (p q : ℕ) → IsAt d v p → IsAt d v q → p ≡ q }
+    ensures one_position { (d : Domain) (v : Value) (p q : ℕ) → IsValueAt d v p → IsValueAt d v q → p ≡ q }
     ensures one_value { (d : Domain) (v w : Value) (p : ℕ) → IsDomain d → Holds d v → Holds d w
-        → IsAt d v p → IsAt d w p → v ≡ w }
-    ensures in_order { (d : Domain) (v w : Value) (p q : ℕ) → Holds d v → Holds d w → IsAt d v p
-        → IsAt d w q → is_before v w ≡ true → p < q }
+        → IsValueAt d v p → IsValueAt d w p → v ≡ w }
+    ensures in_order { (d : Domain) (v w : Value) (p q : ℕ) → Holds d v → Holds d w → IsValueAt d v p
+        → IsValueAt d w q → is_before v w ≡ true → p < q }
     ensures listed { (d : Domain) (v : Value) → IsDomain d → Holds d v ↔ Contains (values_of d) v }
 {}
 
@@ -141,7 +141,7 @@ impl Domain {
     /// domain does not have it.
     pub fn position(&self, value: Value) -> Option<u32>
         requires { IsDomain self.now }
-        ensures found { IfSome result (IsAt self.now value) }
+        ensures found { IfSome result (IsValueAt self.now value) }
         ensures variant { IsSome result ↔ Holds self.now value }
     {
         match self {
@@ -175,7 +175,7 @@ impl Domain {
     /// have more.
     pub fn value_at(&self, position: u32) -> Option<Value>
         requires { IsDomain self.now }
-        ensures found { IfSome result (λ v. Holds self.now v × IsAt self.now v position) }
+        ensures found { IfSome result (λ v. Holds self.now v × IsValueAt self.now v position) }
         ensures variant { IsSome result ↔ HasMore self.now position }
     {
         match self {

@@ -14,62 +14,62 @@ use Rattle.eq_build.specs.Entries.{Entry, Built, only, opposite_terms, joint_ter
 use Rattle.eq_build.specs.Builds.{Builds, Builds_each, Builds_cases}
 use Rattle.eq_build.specs.BuildsInside.{NeedsMore, most_gates}
 use Rattle.eq_build.specs.Builds as b
-use Rattle.eq_build.specs.Views.{entries_in, lists_in, row_of, Stops, MakesEntries}
-use Rattle.eq_build.specs.Answers.{Entries, EachNeedsMore, PartsNeedMore, CasesNeedMore, AnswersEntries}
+use Rattle.eq_build.specs.Views.{entries_in, lists_in, row_read, StopsBuilding, MakesEntries}
+use Rattle.eq_build.specs.Answers.{EntryLists, EachNeedsMore, PartsNeedMore, CasesNeedMore, AnswersEntries}
 use Rattle.eq_build.specs.declared.entries.BuildFault.{BuildFault}
 use Rattle.eq_build.specs.declared.steps.Step.TheVariants.{Times, Lesser, Greater, Counted, Compared}
 use Rattle.eq_build.proofs.Growing.{longer_on, terms_more, folded_more, led_more, chosen_more, builds_more}
 use Rattle.eq_build.proofs.Same.{With, builds_same, cases_same}
 use Rattle.eq_build.proofs.Stopping.{stops_up, passed_on}
 
-module _ (rows : List Entries) (g : List Gate) where
+module _ (rows : List EntryLists) (g : List Gate) where
   -- the answer for a level is that for the expression
-  pub at_level : (e : Expr VarId) (x : Level VarId) (r : Result Entries BuildFault) (gates : List flat.Gate)
+  pub at_level : (e : Expr VarId) (x : Level VarId) (r : Result EntryLists BuildFault) (gates : List flat.Gate)
       → out-Expr VarId e ≡ x → AnswersEntries rows g x r gates → AnswersEntries rows g (out-Expr VarId e) r gates
   at_level e x r gates i h = subst (λ (z : Level VarId). AnswersEntries rows g z r gates) (sym i) h
 
   -- an expression is built from what its operands are
-  pub finished : (e : Level VarId) (w : Built) (r : Result Entries BuildFault) (gates : List flat.Gate)
-      → Builds (row_of rows) g e w → MakesEntries w r gates → AnswersEntries rows g e r gates
-  finished e w (Ok xs) gates d m = (subst (λ (z : Built). Builds (row_of rows) g e z) m.0 d, m.1)
+  pub finished : (e : Level VarId) (w : Built) (r : Result EntryLists BuildFault) (gates : List flat.Gate)
+      → Builds (row_read rows) g e w → MakesEntries w r gates → AnswersEntries rows g e r gates
+  finished e w (Ok xs) gates d m = (subst (λ (z : Built). Builds (row_read rows) g e z) m.0 d, m.1)
   finished e w (Err fault) gates d m =
       stops_up fault
-      (λ l q c. subst (λ (z : Built). most_gates < length z.gates) (builds_same (row_of rows) refl d c) l) m
+      (λ l q c. subst (λ (z : Built). most_gates < length z.gates) (builds_same (row_read rows) refl d c) l) m
 
   -- a fault of an operand is one of the expression
-  pub stopped : (e : Level VarId) (r : Result Entries BuildFault) (x : BuildFault) (gates : List flat.Gate)
-      → IsErrAnd r (λ z. z ≡ x) → Stops x (NeedsMore (row_of rows) g e) → AnswersEntries rows g e r gates
+  pub stopped : (e : Level VarId) (r : Result EntryLists BuildFault) (x : BuildFault) (gates : List flat.Gate)
+      → IsErrAnd r (λ z. z ≡ x) → StopsBuilding x (NeedsMore (row_read rows) g e) → AnswersEntries rows g e r gates
   stopped e r x gates i s =
-      passed_on (λ (xs : Entries) (h : List Gate). Builds (row_of rows) g e
+      passed_on (λ (xs : EntryLists) (h : List Gate). Builds (row_read rows) g e
       (record { entries = entries_in xs.items; gates = h }))
-      (NeedsMore (row_of rows) g e) r x gates i s
+      (NeedsMore (row_read rows) g e) r x gates i s
 
   -- where an operand needs too many gates, so does the expression
-  pub fails : (e : Expr VarId) (level : Level VarId) (N : Type 0) (r : Result Entries BuildFault) (x : BuildFault)
-      (gates : List flat.Gate) → out-Expr VarId e ≡ level → (N → NeedsMore (row_of rows) g level)
-      → IsErrAnd r (λ z. z ≡ x) → Stops x N → AnswersEntries rows g (out-Expr VarId e) r gates
+  pub fails : (e : Expr VarId) (level : Level VarId) (N : Type 0) (r : Result EntryLists BuildFault) (x : BuildFault)
+      (gates : List flat.Gate) → out-Expr VarId e ≡ level → (N → NeedsMore (row_read rows) g level)
+      → IsErrAnd r (λ z. z ≡ x) → StopsBuilding x N → AnswersEntries rows g (out-Expr VarId e) r gates
   fails e level N r x gates i up h s = at_level e level r gates i (stopped level r x gates h (stops_up x up s))
 
-  pub each_fails : (e : Expr VarId) (level : Level VarId) (xs ys : List (Expr VarId)) (r : Result Entries BuildFault)
+  pub each_fails : (e : Expr VarId) (level : Level VarId) (xs ys : List (Expr VarId)) (r : Result EntryLists BuildFault)
       (x : BuildFault) (gates : List flat.Gate) → out-Expr VarId e ≡ level → xs ≡ ys
-      → (EachNeedsMore (row_of rows) g ys → NeedsMore (row_of rows) g level) → IsErrAnd r (λ z. z ≡ x)
-      → Stops x (EachNeedsMore (row_of rows) g xs) → AnswersEntries rows g (out-Expr VarId e) r gates
+      → (EachNeedsMore (row_read rows) g ys → NeedsMore (row_read rows) g level) → IsErrAnd r (λ z. z ≡ x)
+      → StopsBuilding x (EachNeedsMore (row_read rows) g xs) → AnswersEntries rows g (out-Expr VarId e) r gates
   each_fails e level xs ys r x gates i j up h s =
-      fails e level (EachNeedsMore (row_of rows) g xs) r x gates i
-      (λ n. up (subst (λ (z : List (Expr VarId)). EachNeedsMore (row_of rows) g z) j n)) h s
+      fails e level (EachNeedsMore (row_read rows) g xs) r x gates i
+      (λ n. up (subst (λ (z : List (Expr VarId)). EachNeedsMore (row_read rows) g z) j n)) h s
 
   -- an expression is built from the list of what its operands are
-  pub each_done : (e : Expr VarId) (level : Level VarId) (xs ys : List (Expr VarId)) (all seen : List Entries)
-      (mid : List Gate) (w : List (List Entry) → Built) (r : Result Entries BuildFault) (gates : List flat.Gate)
+  pub each_done : (e : Expr VarId) (level : Level VarId) (xs ys : List (Expr VarId)) (all seen : List EntryLists)
+      (mid : List Gate) (w : List (List Entry) → Built) (r : Result EntryLists BuildFault) (gates : List flat.Gate)
       → out-Expr VarId e ≡ level → xs ≡ ys → seen ≡ all
-      → (Builds_each (row_of rows) g ys (lists_in all) mid → Builds (row_of rows) g level (w (lists_in all)))
-      → Builds_each (row_of rows) g xs (lists_in all) mid → MakesEntries (w (lists_in seen)) r gates
+      → (Builds_each (row_read rows) g ys (lists_in all) mid → Builds (row_read rows) g level (w (lists_in all)))
+      → Builds_each (row_read rows) g xs (lists_in all) mid → MakesEntries (w (lists_in seen)) r gates
       → AnswersEntries rows g (out-Expr VarId e) r gates
   each_done e level xs ys all seen mid w r gates i j k build d m =
       at_level e level r gates i
       (finished level (w (lists_in all)) r gates
-      (build (subst (λ (z : List (Expr VarId)). Builds_each (row_of rows) g z (lists_in all) mid) j d))
-      (subst (λ (z : List Entries). MakesEntries (w (lists_in z)) r gates) k m))
+      (build (subst (λ (z : List (Expr VarId)). Builds_each (row_read rows) g z (lists_in all) mid) j d))
+      (subst (λ (z : List EntryLists). MakesEntries (w (lists_in z)) r gates) k m))
 
 module _ (read : VarId → List Entry) (g : List Gate) where
   pub up_not : (a : Box (Expr VarId) Global) → NeedsMore read g (out-Expr VarId a.value) → NeedsMore read g (Not a)

@@ -9,7 +9,7 @@ use Rattle.typed_expr.specs.Yields.{Level}
 use Rattle.typed_expr.specs.declared.expr.Expr.{Expr}
 use Rattle.eq_core.specs.Gates.{Operand, Always, Gate, all_of}
 use Rattle.eq_core.specs.Ordered.{AreBelow, AreOrdered}
-use Rattle.eq_core.specs.ValuesInside.{Grows, IsBelow}
+use Rattle.eq_core.specs.ValuesInside.{GainsGates, IsBelow}
 use Rattle.eq_core.proofs.Ordering.{joined_ordered, none_earlier}
 use Rattle.eq_core.proofs.Telling.{grows_on, below_kept, all_more}
 use Rattle.eq_build.specs.Entries.{Entry, Term, Group, OperandRow, Built, operand_for, all_of_each, one_of_alls, with_terms, entries_of, entries_for, only, pairs_of, combined, folded, with_step, with_signs, led, opposite_term, opposite_terms, each_for, joint_terms, case_terms, chosen}
@@ -24,7 +24,7 @@ use Rattle.eq_build.proofs.GroupsRise.{InGroups, InTerms, terms_were}
 use Rattle.eq_build.proofs.Growing.{each_more, one_more, entries_more, terms_more, chosen_more, builds_more, operands_more, parts_more, cases_more}
 
 -- entries that name no later gates still do when gates are added
-pub entries_on : {g h : List Gate} (es : List Entry) → Grows g h → EntriesBelow g es → EntriesBelow h es
+pub entries_on : {g h : List Gate} (es : List Entry) → GainsGates g h → EntriesBelow g es → EntriesBelow h es
 entries_on es w a = record { each = λ e m. below_kept e.operand w (a.each e m) }
 
 -- operands, and the gates so far, in order
@@ -40,7 +40,7 @@ row_ordered g (os ∷ oss) a l = with_rest (λ h w c. row_ordered h oss c (all_k
     others : AllBelow g oss
     others = record { each = λ ps m. l.each ps (one_rest os oss ps m) }
 
-    with_rest : ((h : List Gate) → Grows g h → AreOrdered h → IsOrderedRow (all_of_each h oss))
+    with_rest : ((h : List Gate) → GainsGates g h → AreOrdered h → IsOrderedRow (all_of_each h oss))
         → IsOrderedRow (all_of_each g (os ∷ oss))
     with_rest rest =
         let m = all_of g os in
@@ -66,7 +66,7 @@ groups_ordered g (p ∷ ps) a l = with_rest (λ h w c. groups_ordered h ps c (be
     others : GroupsBelow g ps
     others = record { each = λ q m. l.each q (one_rest p ps q m) }
 
-    with_rest : ((h : List Gate) → Grows g h → AreOrdered h → IsOrderedBuilt (entries_of h ps))
+    with_rest : ((h : List Gate) → GainsGates g h → AreOrdered h → IsOrderedBuilt (entries_of h ps))
         → IsOrderedBuilt (entries_of g (p ∷ ps))
     with_rest rest =
         let row = row_ordered g p.terms a (l.each p (one_first p ps)) in
@@ -121,7 +121,7 @@ read_below {g = g} (e ∷ es) d a =
 record ListsBelow (g : List Gate) (ess : List (List Entry)) : Type 0 where
   pub each : (es : List Entry) → IsOneOf ess es → EntriesBelow g es
 
-lists_on : {g h : List Gate} (ess : List (List Entry)) → Grows g h → ListsBelow g ess → ListsBelow h ess
+lists_on : {g h : List Gate} (ess : List (List Entry)) → GainsGates g h → ListsBelow g ess → ListsBelow h ess
 lists_on ess w a = record { each = λ es m. entries_on es w (a.each es m) }
 
 lists_with : {g : List Gate} (es : List Entry) (ess : List (List Entry)) → EntriesBelow g es → ListsBelow g ess
@@ -253,7 +253,7 @@ module _ {V : Type 0} (read : V → List Entry) where
   pub record ReadsBelow (g : List Gate) : Type 0 where
     pub each : (x : V) → EntriesBelow g (read x)
 
-  reads_on : {g h : List Gate} → Grows g h → ReadsBelow g → ReadsBelow h
+  reads_on : {g h : List Gate} → GainsGates g h → ReadsBelow g → ReadsBelow h
   reads_on w r = record { each = λ x. entries_on (read x) w (r.each x) }
 
   record EachOrdered (ess : List (List Entry)) (h : List Gate) : Type 0 where
@@ -286,7 +286,7 @@ module _ {V : Type 0} (read : V → List Entry) where
     ];
   }
 
-  cases_on : {g h : List Gate} (cs : List (List Entry × List Entry)) → Grows g h → CasesBelow g cs → CasesBelow h cs
+  cases_on : {g h : List Gate} (cs : List (List Entry × List Entry)) → GainsGates g h → CasesBelow g cs → CasesBelow h cs
   cases_on cs w l = record { each = λ c m. let p = l.each c m in (entries_on c.0 w p.0, entries_on c.1 w p.1) }
 
   mutual

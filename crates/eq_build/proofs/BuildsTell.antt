@@ -15,7 +15,7 @@ use Rattle.typed_expr.specs.declared.expr.ValueKind.TheVariants.{Truth, Whole}
 use Rattle.typed_expr.specs.declared.expr.Expr.{Expr, out-Expr}
 use Rattle.typed_expr.specs.declared.expr.Expr.TheOpen.{Constant, Variable, Compare, Sum, Product, Least, Greatest, Count, Choose}
 use Rattle.eq_core.specs.Gates.{Gate}
-use Rattle.eq_core.specs.ValuesInside.{Grows}
+use Rattle.eq_core.specs.ValuesInside.{GainsGates}
 use Rattle.eq_core.proofs.Telling.{grows_self, grows_on}
 use Rattle.eq_build.specs.Entries.{Entry, Built, led}
 use Rattle.eq_build.specs.Builds.{Builds, Builds_each, Builds_parts, Builds_cases}
@@ -42,7 +42,7 @@ module _ {V : Type 0} (facts : V → Value → Type 0) (set : List ℕ) (kinds :
   pub record IsRead (g : List Gate) : Type 0 where
     pub each : (x : V) → AreEntries set g (read x) (facts x)
 
-  pub read_on : {g h : List Gate} → Grows g h → IsRead g → IsRead h
+  pub read_on : {g h : List Gate} → GainsGates g h → IsRead g → IsRead h
   read_on w r = record { each = λ x. entries_kept w (r.each x) }
 
   combined_yields : (q : Relation) (a c : Box (Expr V) Global) (d : Value)
@@ -101,17 +101,17 @@ module _ {V : Type 0} (facts : V → Value → Type 0) (set : List ℕ) (kinds :
   yields_count es d (y.count {vs = vs} h) = record { values = vs; picks = h; is = refl }
 
   pub record EachBuilt (g : List Gate) (es : List (Expr V)) (ess : List (List Entry)) (h : List Gate) : Type 0 where
-    pub grown : Grows g h
+    pub grown : GainsGates g h
     pub tells : EachTells facts set h es ess
 
   pub record PartsBuilt (g : List Gate) (ps : List (Bool × Expr V)) (ess : List (Bool × List Entry)) (h : List Gate)
       : Type 0 where
-    pub grown : Grows g h
+    pub grown : GainsGates g h
     pub tells : PartsTell facts set h ps ess
 
   pub record CasesBuilt (g : List Gate) (cs : List (Expr V × Expr V)) (ess : List (List Entry × List Entry))
       (h : List Gate) : Type 0 where
-    pub grown : Grows g h
+    pub grown : GainsGates g h
     pub tells : CasesTell facts set h cs ess
 
   of_constant : (c d : Value) → Yields facts (Constant c) d → c ≡ d

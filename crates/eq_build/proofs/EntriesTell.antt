@@ -9,7 +9,7 @@ use Rattle.domains.proofs.Same.{same_is, same_self}
 use Rattle.eq_core.specs.Gates.{Operand, Always, Never, EventIs, GateIs, Gate, all_of}
 use Rattle.eq_core.specs.Ordered.{AreBelow}
 use Rattle.eq_core.specs.Values.{value_at}
-use Rattle.eq_core.specs.ValuesInside.{IsTrueWhere, Grows, EachTrue}
+use Rattle.eq_core.specs.ValuesInside.{IsTrueWhere, GainsGates, EachTrue}
 use Rattle.eq_core.proofs.Telling.{grows_self, grows_on, value_kept, below_kept, tells_kept, tells_as, tells_never, all_tells, all_grows, any_tells, any_grows}
 use Rattle.eq_build.specs.Entries.{Entry, operand_for, Term, Group, OperandRow, all_of_each, one_of_alls, is_never, with_entry, with_terms, entries_of, entries_for}
 use Rattle.eq_build.specs.EntriesInside.{Rises}
@@ -26,7 +26,7 @@ pub is_so : (v w : Value) → v ≡ w → is_same v w ≡ true
 is_so v w e = subst (λ z. is_same v z ≡ true) e (same_self v)
 
 -- entries tell of the same when gates are added
-pub entries_kept : {set : List ℕ} {g h : List Gate} {es : List Entry} {P : Value → Type 0} → Grows g h
+pub entries_kept : {set : List ℕ} {g h : List Gate} {es : List Entry} {P : Value → Type 0} → GainsGates g h
     → AreEntries set g es P → AreEntries set h es P
 entries_kept w a = record { tells = λ e o. tells_kept w (a.tells e o); whole = a.whole }
 
@@ -59,27 +59,27 @@ pub entry_tells : {set : List ℕ} {g : List Gate} {es : List Entry} {P : Value 
 entry_tells {es = es} {P = P} a d = operand_tells es P d a.tells (a.whole d)
 
 -- operands are true of more gates where they were
-each_on : {set : List ℕ} {g h : List Gate} (os : List Operand) → Grows g h → AreBelow (length g) os
+each_on : {set : List ℕ} {g h : List Gate} (os : List Operand) → GainsGates g h → AreBelow (length g) os
     → EachTrue set g os → EachTrue set h os
 each_on {set = set} os w a t = record { each = λ o m. value_kept set o w (a.each o m) ∙ t.each o m }
 
-each_back : {set : List ℕ} {g h : List Gate} (os : List Operand) → Grows g h → AreBelow (length g) os
+each_back : {set : List ℕ} {g h : List Gate} (os : List Operand) → GainsGates g h → AreBelow (length g) os
     → EachTrue set h os → EachTrue set g os
 each_back {set = set} os w a t = record { each = λ o m. sym (value_kept set o w (a.each o m)) ∙ t.each o m }
 
-pub are_kept : {g h : List Gate} (os : List Operand) → Grows g h → AreBelow (length g) os → AreBelow (length h) os
+pub are_kept : {g h : List Gate} (os : List Operand) → GainsGates g h → AreBelow (length g) os → AreBelow (length h) os
 are_kept os w a = record { each = λ o m. below_kept o w (a.each o m) }
 
 -- each list names no later gate
 pub record AllBelow (g : List Gate) (oss : List (List Operand)) : Type 0 where
   pub each : (os : List Operand) → IsOneOf oss os → AreBelow (length g) os
 
-pub all_kept : {g h : List Gate} (oss : List (List Operand)) → Grows g h → AllBelow g oss → AllBelow h oss
+pub all_kept : {g h : List Gate} (oss : List (List Operand)) → GainsGates g h → AllBelow g oss → AllBelow h oss
 all_kept oss w a = record { each = λ os o. are_kept os w (a.each os o) }
 
 -- the operands of a row, each telling that its list is true
 record IsRow (set : List ℕ) (g : List Gate) (oss : List (List Operand)) (r : OperandRow) : Type 0 where
-  pub grown : Grows g r.gates
+  pub grown : GainsGates g r.gates
   pub each : (os : List Operand) → IsOneOf oss os
       → (o : Operand) × IsOneOf r.operands o × IsTrueWhere set r.gates o (EachTrue set g os)
   pub back : (o : Operand) → IsOneOf r.operands o
@@ -96,11 +96,11 @@ row_tells set g [] a = record {
 row_tells set g (os ∷ oss) a = with_head (a.each os (one_first os oss)) (λ h w. row_tells set h oss
     (all_kept oss w (record { each = λ ps o. a.each ps (one_rest os oss ps o) })))
   where
-    with_head : AreBelow (length g) os → ((h : List Gate) → Grows g h → IsRow set h oss (all_of_each h oss))
+    with_head : AreBelow (length g) os → ((h : List Gate) → GainsGates g h → IsRow set h oss (all_of_each h oss))
         → IsRow set g (os ∷ oss) (all_of_each g (os ∷ oss))
     with_head b rest =
         let m = all_of g os in
-        let w : Grows g m.gates = all_grows set g os b in
+        let w : GainsGates g m.gates = all_grows set g os b in
         let r = rest m.gates w in
         let rr = all_of_each m.gates oss in
         let t : IsTrueWhere set rr.gates m.operand (EachTrue set g os) = tells_kept r.grown (all_tells set g os b) in
@@ -125,7 +125,7 @@ row_tells set g (os ∷ oss) a = with_head (a.each os (one_first os oss)) (λ h 
         }
 
 -- one of the lists, all of its operands
-pub one_grows : (set : List ℕ) (g : List Gate) (oss : List (List Operand)) → AllBelow g oss → Grows g (one_of_alls g
+pub one_grows : (set : List ℕ) (g : List Gate) (oss : List (List Operand)) → AllBelow g oss → GainsGates g (one_of_alls g
     oss).gates × IsTrueWhere set (one_of_alls g oss).gates (one_of_alls g oss).operand (OneAll set g oss)
 one_grows set g oss a =
     let r = row_tells set g oss a in
@@ -141,7 +141,7 @@ one_grows set g oss a =
           (any_tells set rr.gates rr.operands b),
     )
 
-one_on : {set : List ℕ} {g h : List Gate} (oss : List (List Operand)) → Grows g h → AllBelow g oss
+one_on : {set : List ℕ} {g h : List Gate} (oss : List (List Operand)) → GainsGates g h → AllBelow g oss
     → OneAll set g oss → OneAll set h oss
 one_on oss w a t = record {
   operands = t.operands;
@@ -150,7 +150,7 @@ one_on oss w a t = record {
       (a.each t.operands t.is_one) t.each;
 }
 
-one_back : {set : List ℕ} {g h : List Gate} (oss : List (List Operand)) → Grows g h → AllBelow g oss
+one_back : {set : List ℕ} {g h : List Gate} (oss : List (List Operand)) → GainsGates g h → AllBelow g oss
     → OneAll set h oss → OneAll set g oss
 one_back oss w a t = record {
   operands = t.operands;
@@ -170,10 +170,10 @@ pub record OneOfGroups (set : List ℕ) (g : List Gate) (ps : List Group) (d : V
 pub record GroupsBelow (g : List Gate) (ps : List Group) : Type 0 where
   pub each : (p : Group) → IsOneOf ps p → AllBelow g p.terms
 
-pub below_on : {g h : List Gate} (ps : List Group) → Grows g h → GroupsBelow g ps → GroupsBelow h ps
+pub below_on : {g h : List Gate} (ps : List Group) → GainsGates g h → GroupsBelow g ps → GroupsBelow h ps
 below_on ps w a = record { each = λ p m. all_kept p.terms w (a.each p m) }
 
-groups_on : {set : List ℕ} {g h : List Gate} (ps : List Group) (d : Value) → Grows g h → GroupsBelow g ps
+groups_on : {set : List ℕ} {g h : List Gate} (ps : List Group) (d : Value) → GainsGates g h → GroupsBelow g ps
     → OneOfGroups set g ps d → OneOfGroups set h ps d
 groups_on ps d w a i = record {
   group = i.group;
@@ -182,7 +182,7 @@ groups_on ps d w a i = record {
   holds = one_on i.group.terms w (a.each i.group i.is_one) i.holds;
 }
 
-groups_back : {set : List ℕ} {g h : List Gate} (ps : List Group) (d : Value) → Grows g h → GroupsBelow g ps
+groups_back : {set : List ℕ} {g h : List Gate} (ps : List Group) (d : Value) → GainsGates g h → GroupsBelow g ps
     → OneOfGroups set h ps d → OneOfGroups set g ps d
 groups_back ps d w a i = record {
   group = i.group;
@@ -252,9 +252,9 @@ groups_tell set g (p ∷ ps) r a =
     not_later : (q : Group) → IsOneOf ps q → p.value ≡ q.value → ⊥
     not_later q m e = not_before p.value q.value (r.0 q m) e
 
-    with_rest : Grows g (one_of_alls g p.terms).gates
+    with_rest : GainsGates g (one_of_alls g p.terms).gates
         × IsTrueWhere set (one_of_alls g p.terms).gates (one_of_alls g p.terms).operand (OneAll set g p.terms)
-        → ((h : List Gate) → Grows g h → IsBuilt set h (entries_of h ps) (OneOfGroups set h ps))
+        → ((h : List Gate) → GainsGates g h → IsBuilt set h (entries_of h ps) (OneOfGroups set h ps))
         → IsBuilt set g (entries_of g (p ∷ ps)) (OneOfGroups set g (p ∷ ps))
     with_rest m rest =
         let made = one_of_alls g p.terms in

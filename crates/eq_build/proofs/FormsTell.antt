@@ -13,7 +13,7 @@ use Rattle.typed_expr.specs.declared.expr.Expr.TheOpen.{Not, All, Any}
 use Rattle.eq_core.specs.Gates.{Operand, Always, Gate}
 use Rattle.eq_core.specs.Ordered.{AreBelow}
 use Rattle.eq_core.specs.Values.{value_at}
-use Rattle.eq_core.specs.ValuesInside.{IsBelow, IsTrueWhere, Grows, EachTrue}
+use Rattle.eq_core.specs.ValuesInside.{IsBelow, IsTrueWhere, GainsGates, EachTrue}
 use Rattle.eq_core.proofs.Telling.{grows_self, grows_on, tells_always}
 use Rattle.eq_build.specs.Entries.{Entry, Term, operand_for, entries_for, pair_term, pairs_of, result_of, combined, folded, with_step, with_signs, only, opposite_term, opposite_terms, each_for, joint_terms, case_terms, chosen}
 use Rattle.eq_build.specs.Tells.{AreEntries, IsBuilt}
@@ -206,12 +206,12 @@ module _ {V : Type 0} (facts : V → Value → Type 0) (set : List ℕ) where
         → AreEntries set g xs (Yields facts (out-Expr V e)) → StepsTell g ps ess
         → StepsTell g ((step, e) ∷ ps) ((step, xs) ∷ ess)
 
-  pub cases_kept : {g h : List Gate} {cs : List (Expr V × Expr V)} {ess : List (List Entry × List Entry)} → Grows g h
+  pub cases_kept : {g h : List Gate} {cs : List (Expr V × Expr V)} {ess : List (List Entry × List Entry)} → GainsGates g h
       → CasesTell g cs ess → CasesTell h cs ess
   cases_kept w none = none
   cases_kept w (case_and a c t) = case_and (entries_kept w a) (entries_kept w c) (cases_kept w t)
 
-  steps_kept : {g h : List Gate} {ps : List (Step × Expr V)} {ess : List (Step × List Entry)} → Grows g h
+  steps_kept : {g h : List Gate} {ps : List (Step × Expr V)} {ess : List (Step × List Entry)} → GainsGates g h
       → StepsTell g ps ess → StepsTell h ps ess
   steps_kept w none = none
   steps_kept w (step_and a t) = step_and (entries_kept w a) (steps_kept w t)

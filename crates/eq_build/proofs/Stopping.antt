@@ -11,30 +11,30 @@ use Rattle.eq_build.specs.Entries.{OperandRow, Group, Built, all_of_each, one_of
 use Rattle.eq_build.specs.Entries.{Entry as View}
 use Rattle.eq_build.specs.declared.steps.Step.{Step}
 use Rattle.eq_build.specs.BuildsInside.{most_gates}
-use Rattle.eq_build.specs.Views.{entries_in, cases_in, Stops, Makes, MakesOperand, MakesEntries}
+use Rattle.eq_build.specs.Views.{entries_in, cases_in, StopsBuilding, BuildsOrFails, MakesOperand, MakesEntries}
 use Rattle.eq_build.specs.declared.entries.Entry.{Entry}
 use Rattle.eq_build.specs.declared.entries.BuildFault.{BuildFault}
 use Rattle.eq_build.specs.declared.entries.BuildFault.TheVariants.{Gates, Memory}
 use Rattle.eq_build.proofs.Growing.{longer_on, each_more, entries_more, folded_more, chosen_more}
 
-pub stops_up : (fault : BuildFault) {P Q : Type 0} → (P → Q) → Stops fault P → Stops fault Q
+pub stops_up : (fault : BuildFault) {P Q : Type 0} → (P → Q) → StopsBuilding fault P → StopsBuilding fault Q
 stops_up Gates f h = f h
 stops_up Memory f h = tt
 
 -- a fault that is passed on
 pub passed_on : {A : Type 0} (done : A → List Gate → Type 0) (more : Type 0) (r : Result A BuildFault) (x : BuildFault)
-    (gates : List flat.Gate) → IsErrAnd r (λ e. e ≡ x) → Stops x more → Makes done more r gates
+    (gates : List flat.Gate) → IsErrAnd r (λ e. e ≡ x) → StopsBuilding x more → BuildsOrFails done more r gates
 passed_on done more (Ok a) x gates h s = elim h [ ]
-passed_on done more (Err e) x gates h s = subst (λ z. Stops z more) (sym h) s
+passed_on done more (Err e) x gates h s = subst (λ z. StopsBuilding z more) (sym h) s
 
 pub operand_passed_on : (m : Made) (r : Result sign.Operand BuildFault) (x : BuildFault) (gates : List flat.Gate)
-    → IsErrAnd r (λ e. e ≡ x) → Stops x (most_gates < length m.gates) → MakesOperand m r gates
+    → IsErrAnd r (λ e. e ≡ x) → StopsBuilding x (most_gates < length m.gates) → MakesOperand m r gates
 operand_passed_on m r x gates h s =
     passed_on (λ (o : sign.Operand) (h : List Gate). m ≡ record { operand = operand_of o; gates = h })
     (most_gates < length m.gates) r x gates h s
 
 pub entries_passed_on : (b : Built) (r : Result (Vec Entry Global) BuildFault) (x : BuildFault) (gates : List flat.Gate)
-    → IsErrAnd r (λ e. e ≡ x) → Stops x (most_gates < length b.gates) → MakesEntries b r gates
+    → IsErrAnd r (λ e. e ≡ x) → StopsBuilding x (most_gates < length b.gates) → MakesEntries b r gates
 entries_passed_on b r x gates h s =
     passed_on (λ (xs : Vec Entry Global) (h : List Gate). b ≡ record { entries = entries_in xs.items; gates = h })
     (most_gates < length b.gates) r x gates h s

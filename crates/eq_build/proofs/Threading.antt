@@ -2,7 +2,7 @@
 -- operand and what is built for it.
 use Rattle.std.proofs.Common.{◌≡◌, ℕ, suc, ◌<◌, List, [], ◌∷◌, ◌++◌, length, drop, sym, subst, append_assoc, append-nil}
 use Rattle.eq_core.specs.Gates.{Gate}
-use Rattle.eq_core.specs.ValuesInside.{Grows}
+use Rattle.eq_core.specs.ValuesInside.{GainsGates}
 use Rattle.eq_build.proofs.Growing.{longer_on}
 
 -- so many operands are built: what is built for the others goes behind it, and what is built for all comes by here
@@ -33,7 +33,7 @@ module _ {A B : Type 0} (R : List Gate → A → B → List Gate → Type 0)
     → S g (x ∷ xs) (y ∷ ys) k)
     (parted : (g k : List Gate) (x : A) (xs : List A) (ys : List B) → S g (x ∷ xs) ys k → Parted R S g x xs k)
     (same : (g h k : List Gate) (x : A) (y z : B) → R g x y h → R g x z k → h ≡ k)
-    (more : (g k : List Gate) (xs : List A) (ys : List B) → S g xs ys k → Grows g k) where
+    (more : (g k : List Gate) (xs : List A) (ys : List B) → S g xs ys k → GainsGates g k) where
   -- one more operand is built
   pub one_further : (g h k : List Gate) (xs : List A) (i : ℕ) (x : A) (y : B) (out : List B)
       → drop i xs ≡ x ∷ drop (suc i) xs → R h x y k → SoFar S g xs i out h → SoFar S g xs (suc i) (out ++ y ∷ []) k

@@ -9,13 +9,13 @@ use Rattle.eq_core.specs.declared.joints.Gate as flat
 use Rattle.eq_build.specs.Entries as e
 use Rattle.eq_build.specs.Builds.{Builds, Builds_each, Builds_parts, Builds_cases}
 use Rattle.eq_build.specs.BuildsInside.{NeedsMore, most_gates}
-use Rattle.eq_build.specs.Views.{entries_in, lists_in, parts_in, cases_in, row_of, Makes}
+use Rattle.eq_build.specs.Views.{entries_in, lists_in, signed_parts_in, cases_in, row_read, BuildsOrFails}
 use Rattle.eq_build.specs.declared.entries.Entry.{Entry}
 use Rattle.eq_build.specs.declared.entries.BuildFault.{BuildFault}
 
 -- a list of entries of the code
-abbrev pub Entries : Type 0
-Entries = Vec Entry Global
+abbrev pub EntryLists : Type 0
+EntryLists = Vec Entry Global
 
 -- the operands need more gates than a table may have
 abbrev pub EachNeedsMore : (VarId → List e.Entry) → List Gate → List (Expr VarId) → Type 0
@@ -33,28 +33,28 @@ CasesNeedMore read g cs = (ess : List (List e.Entry × List e.Entry)) (h : List 
     → most_gates < length h
 
 -- the entries of an expression, or a fault
-abbrev pub AnswersEntries : List Entries → List Gate → Level VarId → Result Entries BuildFault → List flat.Gate → Type 0
+abbrev pub AnswersEntries : List EntryLists → List Gate → Level VarId → Result EntryLists BuildFault → List flat.Gate → Type 0
 AnswersEntries rows g e =
-    Makes (λ (xs : Entries) h. Builds (row_of rows) g e (record { entries = entries_in xs.items; gates = h }))
-    (NeedsMore (row_of rows) g e)
+    BuildsOrFails (λ (xs : EntryLists) h. Builds (row_read rows) g e (record { entries = entries_in xs.items; gates = h }))
+    (NeedsMore (row_read rows) g e)
 
 -- the entries of operands
-abbrev pub AnswersEach : List Entries → List Gate → List (Expr VarId) → Result (Vec Entries Global) BuildFault
+abbrev pub AnswersEach : List EntryLists → List Gate → List (Expr VarId) → Result (Vec EntryLists Global) BuildFault
     → List flat.Gate → Type 0
 AnswersEach rows g es =
-    Makes (λ (xs : Vec Entries Global) h. Builds_each (row_of rows) g es (lists_in xs.items) h)
-    (EachNeedsMore (row_of rows) g es)
+    BuildsOrFails (λ (xs : Vec EntryLists Global) h. Builds_each (row_read rows) g es (lists_in xs.items) h)
+    (EachNeedsMore (row_read rows) g es)
 
 -- the entries of the parts of a sum
-abbrev pub AnswersParts : List Entries → List Gate → List (Bool × Expr VarId)
-    → Result (Vec (Bool × Entries) Global) BuildFault → List flat.Gate → Type 0
+abbrev pub AnswersParts : List EntryLists → List Gate → List (Bool × Expr VarId)
+    → Result (Vec (Bool × EntryLists) Global) BuildFault → List flat.Gate → Type 0
 AnswersParts rows g ps =
-    Makes (λ (xs : Vec (Bool × Entries) Global) h. Builds_parts (row_of rows) g ps (parts_in xs.items) h)
-    (PartsNeedMore (row_of rows) g ps)
+    BuildsOrFails (λ (xs : Vec (Bool × EntryLists) Global) h. Builds_parts (row_read rows) g ps (signed_parts_in xs.items) h)
+    (PartsNeedMore (row_read rows) g ps)
 
 -- the entries of the cases of a choice
-abbrev pub AnswersCases : List Entries → List Gate → List (Expr VarId × Expr VarId)
-    → Result (Vec (Entries × Entries) Global) BuildFault → List flat.Gate → Type 0
+abbrev pub AnswersCases : List EntryLists → List Gate → List (Expr VarId × Expr VarId)
+    → Result (Vec (EntryLists × EntryLists) Global) BuildFault → List flat.Gate → Type 0
 AnswersCases rows g cs =
-    Makes (λ (xs : Vec (Entries × Entries) Global) h. Builds_cases (row_of rows) g cs (cases_in xs.items) h)
-    (CasesNeedMore (row_of rows) g cs)
+    BuildsOrFails (λ (xs : Vec (EntryLists × EntryLists) Global) h. Builds_cases (row_read rows) g cs (cases_in xs.items) h)
+    (CasesNeedMore (row_read rows) g cs)

@@ -8,7 +8,7 @@ use Rattle.typed_expr.specs.Yields.{Level, Yields}
 use Rattle.typed_expr.specs.declared.expr.ValueKind.{ValueKind}
 use Rattle.eq_core.specs.Gates.{Operand, Always, Never, EventIs, GateIs, Gate}
 use Rattle.eq_core.specs.Ordered.{AreOrdered}
-use Rattle.eq_core.specs.ValuesInside.{Grows, IsBelow}
+use Rattle.eq_core.specs.ValuesInside.{GainsGates, IsBelow}
 use Rattle.eq_build.specs.Entries.{Entry, Built, one_of_alls}
 use Rattle.eq_build.specs.Builds.{Builds}
 use Rattle.eq_build.specs.Tells.{AreEntries, IsBuilt}
@@ -40,7 +40,7 @@ IsBuiltWhereTyped = (read : VarId → List Entry) (kinds : VarId → ValueKind) 
 -- building only adds gates
 abbrev pub OnlyAddsGates : Type 0
 OnlyAddsGates = (read : VarId → List Entry) (g : List Gate) (e : Level VarId) (b : Built) → Builds read g e b
-    → Grows g b.gates
+    → GainsGates g b.gates
 
 -- one of the operands is Never
 abbrev pub holds_never : List Operand → Bool

@@ -3,7 +3,7 @@ use Rattle.std.specs.Prelude.{◌≡◌, ℕ, List}
 use Rattle.ar_base.specs.Lists.{IsOneOf}
 use Rattle.domains.specs.declared.Value.{Value}
 use Rattle.eq_core.specs.Gates.{Gate}
-use Rattle.eq_core.specs.ValuesInside.{IsTrueWhere, Grows}
+use Rattle.eq_core.specs.ValuesInside.{IsTrueWhere, GainsGates}
 use Rattle.eq_build.specs.Entries.{Entry, Built}
 
 -- each entry's operand is true at the set exactly where P holds of its value, and each value with P has an entry
@@ -13,5 +13,5 @@ pub record AreEntries (set : List ℕ) (gates : List Gate) (es : List Entry) (P 
 
 -- what was built has only more gates, and its entries tell of P
 pub record IsBuilt (set : List ℕ) (gates : List Gate) (b : Built) (P : Value → Type 0) : Type 0 where
-  pub grown : Grows gates b.gates
+  pub grown : GainsGates gates b.gates
   pub entries : AreEntries set b.gates b.entries P

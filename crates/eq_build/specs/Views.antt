@@ -43,8 +43,8 @@ abbrev pub lists_in : List (Vec Entry Global) → List (List e.Entry)
 lists_in rows = map (λ (r : Vec Entry Global). entries_in r.items) rows
 
 -- lists of entries with the signs of the parts of a sum
-abbrev pub parts_in : List (Bool × Vec Entry Global) → List (Bool × List e.Entry)
-parts_in ps = map (λ (p : Bool × Vec Entry Global). (p.0, entries_in p.1.items)) ps
+abbrev pub signed_parts_in : List (Bool × Vec Entry Global) → List (Bool × List e.Entry)
+signed_parts_in ps = map (λ (p : Bool × Vec Entry Global). (p.0, entries_in p.1.items)) ps
 
 -- the entries of the tests and values of cases
 abbrev pub cases_in : List (Vec Entry Global × Vec Entry Global) → List (List e.Entry × List e.Entry)
@@ -57,25 +57,25 @@ row_at (r ∷ rs) zero = entries_in r.items
 row_at (r ∷ rs) (suc n) = row_at rs n
 
 -- what the rows read for a variable
-abbrev pub row_of : List (Vec Entry Global) → VarId → List e.Entry
-row_of rows x = row_at rows x.n
+abbrev pub row_read : List (Vec Entry Global) → VarId → List e.Entry
+row_read rows x = row_at rows x.n
 
 -- where more gates are needed than there may be, so it is; want of memory says nothing
-abbrev pub Stops : BuildFault → Type 0 → Type 0
-Stops Gates more = more
-Stops Memory more = Unit {0}
+abbrev pub StopsBuilding : BuildFault → Type 0 → Type 0
+StopsBuilding Gates more = more
+StopsBuilding Memory more = Unit {0}
 
 -- what is done, and no more gates than there may be; or a fault
-abbrev pub Makes : {A : Type 0} → (A → List Gate → Type 0) → Type 0 → Result A BuildFault → List flat.Gate → Type 0
-Makes done more (Ok a) gates = done a (gates_in gates) × (length gates ≤ most_gates)
-Makes done more (Err fault) gates = Stops fault more
+abbrev pub BuildsOrFails : {A : Type 0} → (A → List Gate → Type 0) → Type 0 → Result A BuildFault → List flat.Gate → Type 0
+BuildsOrFails done more (Ok a) gates = done a (gates_in gates) × (length gates ≤ most_gates)
+BuildsOrFails done more (Err fault) gates = StopsBuilding fault more
 
 -- the operand that is made, or a fault where that makes too many gates
 abbrev pub MakesOperand : Made → Result sign.Operand BuildFault → List flat.Gate → Type 0
-MakesOperand m = Makes (λ o h. m ≡ record { operand = operand_of o; gates = h }) (most_gates < length m.gates)
+MakesOperand m = BuildsOrFails (λ o h. m ≡ record { operand = operand_of o; gates = h }) (most_gates < length m.gates)
 
 -- the entries that are built, or a fault where that makes too many gates
 abbrev pub MakesEntries : e.Built → Result (Vec Entry Global) BuildFault → List flat.Gate → Type 0
 MakesEntries b =
-    Makes (λ (xs : Vec Entry Global) h. b ≡ record { entries = entries_in xs.items; gates = h })
+    BuildsOrFails (λ (xs : Vec Entry Global) h. b ≡ record { entries = entries_in xs.items; gates = h })
     (most_gates < length b.gates)

@@ -5,7 +5,7 @@ ghost use Rattle.typed_expr.specs.declared.expr.Expr.{out-Expr};
 ghost use Rattle.ar_base.specs.Numbers.{VarId as VarNumber};
 ghost use Rattle.eq_build.specs.Builds.{Builds};
 ghost use Rattle.eq_build.specs.BuildsInside.{NeedsMore, most_gates};
-ghost use Rattle.eq_build.specs.Views.{row_of, entry_of, entries_in, gates_in, built_of, Stops};
+ghost use Rattle.eq_build.specs.Views.{row_read, entry_of, entries_in, gates_in, built_of, StopsBuilding};
 ghost use Rattle.eq_core.specs.Gates.{Always as AlwaysTaken};
 ghost use Rattle.eq_build.specs.Answers.{AnswersEntries, AnswersEach, AnswersParts, AnswersCases};
 
@@ -29,11 +29,11 @@ pub fn build(
     expr: &Expr<VarId>,
 ) -> Result<Vec<Entry>, BuildFault>
     requires { length gates.old.items ≤ most_gates }
-    ensures built { IfOk result (λ entries. Builds (row_of rows.now) (gates_in gates.old.items)
+    ensures built { IfOk result (λ entries. Builds (row_read rows.now) (gates_in gates.old.items)
         (out-Expr VarNumber expr.now) (built_of entries.items gates.new.items)) }
     ensures few { OnOk result (length gates.new.items ≤ most_gates) }
-    ensures gates { IfErr result (λ fault. Stops fault
-        (NeedsMore (row_of rows.now) (gates_in gates.old.items) (out-Expr VarNumber expr.now))) }
+    ensures gates { IfErr result (λ fault. StopsBuilding fault
+        (NeedsMore (row_read rows.now) (gates_in gates.old.items) (out-Expr VarNumber expr.now))) }
 {
     entries_of(alloc, gates, rows, expr)
 }

@@ -4,7 +4,7 @@ ghost use Rattle.std.specs.Prelude.{◌≡◌, ◌≤◌, OnOk, IfOk, length, ma
 ghost use Rattle.eq_core.specs.Views.{operand_of};
 ghost use Rattle.eq_build.specs.Entries.{with_terms, pair_term, combined, folded, led, with_step, with_signs, entries_for, opposite_terms, apart, each_for, joint_terms, behind, case_terms, chosen};
 ghost use Rattle.eq_build.specs.BuildsInside.{most_gates};
-ghost use Rattle.eq_build.specs.Views.{entry_of, entries_in, operands_in, gates_in, lists_in, parts_in, cases_in, MakesEntries};
+ghost use Rattle.eq_build.specs.Views.{entry_of, entries_in, operands_in, gates_in, lists_in, signed_parts_in, cases_in, MakesEntries};
 
 use crate::entries::{BuildFault, Entry, operand_for};
 use crate::groups::Groups;
@@ -164,7 +164,7 @@ pub(crate) fn summed(
 ) -> Result<Vec<Entry>, BuildFault>
     requires { length gates.old.items ≤ most_gates }
     ensures { MakesEntries (folded (gates_in gates.old.items) (entries_in start.now)
-        (with_signs (parts_in parts.now))) result gates.new.items }
+        (with_signs (signed_parts_in parts.now))) result gates.new.items }
 {
     let mut so_far = Vec::from_slice(alloc, start)?;
     for (plus, entries) in parts {

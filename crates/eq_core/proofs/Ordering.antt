@@ -4,23 +4,23 @@ use Rattle.ar_base.specs.Lists.{Stands, IsOneOf}
 use Rattle.ar_base.proofs.Standing.{one_cases, one_first, one_none, one_split, stands_split, stands_none}
 use Rattle.eq_core.specs.Gates.{Operand, Always, Never, EventIs, GateIs, Gate, Made, neutral, closed_as, joined}
 use Rattle.eq_core.specs.ValuesInside.{IsBelow}
-use Rattle.eq_core.specs.Ordered.{IsEarlier, AreBelow, IsInPlace, AreOrdered}
+use Rattle.eq_core.specs.Ordered.{NamesEarlier, AreBelow, IsInPlace, AreOrdered}
 use Rattle.eq_core.proofs.Telling.{below_head, below_tail, earlier_below}
 
 -- each operand is an event or one of the first so many gates
 pub record AreEarlier (n : ℕ) (os : List Operand) : Type 0 where
-  pub each : (o : Operand) → IsOneOf os o → IsEarlier n o
+  pub each : (o : Operand) → IsOneOf os o → NamesEarlier n o
 
 -- the gates are in order, and the operand names no later one
 pub record IsOrderedMade (m : Made) : Type 0 where
   pub gates : AreOrdered m.gates
   pub below : IsBelow (length m.gates) m.operand
 
-earlier_more : (n : ℕ) (os : List Operand) (o : Operand) → AreEarlier n os → IsEarlier n o → AreEarlier n (os ++ o ∷ [])
+earlier_more : (n : ℕ) (os : List Operand) (o : Operand) → AreEarlier n os → NamesEarlier n o → AreEarlier n (os ++ o ∷ [])
 earlier_more n os o a h = record {
   each = λ p m. elim (one_split os (o ∷ []) p m) [
     | inl k ↦ a.each p k
-    | inr k ↦ elim (one_cases o [] p k) [ inl e ↦ subst (λ z. IsEarlier n z) e h | inr l ↦ absurd (one_none p l) ]
+    | inr k ↦ elim (one_cases o [] p k) [ inl e ↦ subst (λ z. NamesEarlier n z) e h | inr l ↦ absurd (one_none p l) ]
   ];
 }
 

@@ -6,15 +6,15 @@ use Rattle.ar_base.specs.Lists.{Stands, IsOneOf}
 use Rattle.ar_base.proofs.Standing.{stands_none}
 use Rattle.ar_base.proofs.Truths.{not_true, true_not}
 use Rattle.eq_core.specs.Gates.{Operand, Always, Never, EventIs, GateIs, Gate, Made, opposite, neutral, closed_as, joined, all_of, any_of}
-use Rattle.eq_core.specs.Ordered.{IsEarlier, AreBelow, IsInPlace}
+use Rattle.eq_core.specs.Ordered.{NamesEarlier, AreBelow, IsInPlace}
 use Rattle.eq_core.specs.Values.{has_event, value_of_gate, signed, operand_at, joint_at, values_from, values_at, value_at}
-use Rattle.eq_core.specs.ValuesInside.{IsBelow, IsTrueWhere, Grows, EachTrue, OneTrue}
+use Rattle.eq_core.specs.ValuesInside.{IsBelow, IsTrueWhere, GainsGates, EachTrue, OneTrue}
 
 -- more gates
-pub grows_self : (gates : List Gate) → Grows gates gates
+pub grows_self : (gates : List Gate) → GainsGates gates gates
 grows_self gates = record { more = []; is = sym (append-nil gates) }
 
-pub grows_on : {g h i : List Gate} → Grows g h → Grows h i → Grows g i
+pub grows_on : {g h i : List Gate} → GainsGates g h → GainsGates h i → GainsGates g i
 grows_on {g = g} a b = record
     { more = a.more ++ b.more; is = b.is ∙ ap (λ z. z ++ b.more) a.is ∙ append_assoc g a.more b.more }
 
@@ -54,7 +54,7 @@ operand_kept set xs ys (EventIs e sign) l = refl
 operand_kept set xs ys (GateIs g sign) l = ap (signed sign) (gate_kept xs ys g l)
 
 -- an operand keeps its value when gates are added
-pub value_kept : (set : List ℕ) {old new : List Gate} (o : Operand) → Grows old new → IsBelow (length old) o
+pub value_kept : (set : List ℕ) {old new : List Gate} (o : Operand) → GainsGates old new → IsBelow (length old) o
     → value_at new o set ≡ value_at old o set
 value_kept set {old = old} {new = new} o g l =
     let r = longer set (values_at set old) g.more in
@@ -62,14 +62,14 @@ value_kept set {old = old} {new = new} o g l =
     ap (λ z. operand_at set z o) e ∙ operand_kept set (values_at set old) r.0 o
     (subst (λ n. IsBelow n o) (sym (length_of_values set old)) l)
 
-pub below_kept : {old new : List Gate} (o : Operand) → Grows old new → IsBelow (length old) o → IsBelow (length new) o
+pub below_kept : {old new : List Gate} (o : Operand) → GainsGates old new → IsBelow (length old) o → IsBelow (length new) o
 below_kept Always g l = tt
 below_kept Never g l = tt
 below_kept (EventIs e sign) g l = tt
 below_kept {old = old} {new = new} (GateIs n sign) g l = let e : length new ≡ length old + length g.more = ap length
     g.is ∙ length-append old g.more in omega (arith, e, l)
 
-pub tells_kept : {set : List ℕ} {old new : List Gate} {o : Operand} {P : Type 0} → Grows old new → IsTrueWhere set old o
+pub tells_kept : {set : List ℕ} {old new : List Gate} {o : Operand} {P : Type 0} → GainsGates old new → IsTrueWhere set old o
     P → IsTrueWhere set new o P
 tells_kept {set = set} {o = o} g t =
     let e = value_kept set o g t.below in
@@ -182,7 +182,7 @@ below_more n (k ∷ kept) o a l = go (below_more n kept o (below_tail a) l)
 
 -- what was made has the joint's value
 pub record Joins (both : Bool) (set : List ℕ) (gates : List Gate) (os : List Operand) (m : Made) : Type 0 where
-  pub grown : Grows gates m.gates
+  pub grown : GainsGates gates m.gates
   pub below : IsBelow (length m.gates) m.operand
   pub value : value_at m.gates m.operand set ≡ joint_at both set (values_at set gates) os
 
@@ -318,7 +318,7 @@ module _ (set : List ℕ) (gates : List Gate) (os : List Operand) (a : AreBelow 
         (λ n o s. h.each o (record { place = n; stands = s }));
   }
 
-  pub all_grows : Grows gates (all_of gates os).gates
+  pub all_grows : GainsGates gates (all_of gates os).gates
   all_grows = all_joined.grown
 
   -- one of the operands
@@ -331,16 +331,16 @@ module _ (set : List ℕ) (gates : List Gate) (os : List Operand) (a : AreBelow 
         h.is_one.stands h.holds;
   }
 
-  pub any_grows : Grows gates (any_of gates os).gates
+  pub any_grows : GainsGates gates (any_of gates os).gates
   any_grows = any_joined.grown
 
 -- gates are only added, whatever the operands
-closed_more : (both : Bool) (gates : List Gate) (os : List Operand) → Grows gates (closed_as both gates os).gates
+closed_more : (both : Bool) (gates : List Gate) (os : List Operand) → GainsGates gates (closed_as both gates os).gates
 closed_more both gates [] = grows_self gates
 closed_more both gates (o ∷ []) = grows_self gates
 closed_more both gates (o ∷ p ∷ os) = record { more = record { both = both; operands = o ∷ p ∷ os } ∷ []; is = refl }
 
-joined_more : (both : Bool) (gates : List Gate) (kept os : List Operand) → Grows gates (joined both gates kept os).gates
+joined_more : (both : Bool) (gates : List Gate) (kept os : List Operand) → GainsGates gates (joined both gates kept os).gates
 joined_more both gates kept [] = closed_more both gates kept
 joined_more true gates kept (Always ∷ os) = joined_more true gates kept os
 joined_more false gates kept (Always ∷ os) = grows_self gates
@@ -351,10 +351,10 @@ joined_more false gates kept (EventIs e sign ∷ os) = joined_more false gates (
 joined_more true gates kept (GateIs g sign ∷ os) = joined_more true gates (kept ++ GateIs g sign ∷ []) os
 joined_more false gates kept (GateIs g sign ∷ os) = joined_more false gates (kept ++ GateIs g sign ∷ []) os
 
-pub all_more : (gates : List Gate) (os : List Operand) → Grows gates (all_of gates os).gates
+pub all_more : (gates : List Gate) (os : List Operand) → GainsGates gates (all_of gates os).gates
 all_more gates os = joined_more true gates [] os
 
-pub any_more : (gates : List Gate) (os : List Operand) → Grows gates (any_of gates os).gates
+pub any_more : (gates : List Gate) (os : List Operand) → GainsGates gates (any_of gates os).gates
 any_more gates os = joined_more false gates [] os
 
 -- operands that name no later gate keep a joint's value when gates are added
@@ -406,7 +406,7 @@ pub gate_value : (set : List ℕ) (gates : List Gate) (n : ℕ) (gate : Gate) �
 gate_value set gates n gate s a = value_from set [] gates n n gate s (omega arith) a
 
 -- an event or an earlier gate is no later gate
-pub earlier_below : (n : ℕ) (o : Operand) → IsEarlier n o → IsBelow n o
+pub earlier_below : (n : ℕ) (o : Operand) → NamesEarlier n o → IsBelow n o
 earlier_below n Always h = tt
 earlier_below n Never h = tt
 earlier_below n (EventIs e sign) h = tt

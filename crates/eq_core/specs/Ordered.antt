@@ -5,11 +5,11 @@ use Rattle.eq_core.specs.Gates.{Operand, Always, Never, EventIs, GateIs, Gate, T
 use Rattle.eq_core.specs.ValuesInside.{IsBelow}
 
 -- the operand is an event, or one of the first so many gates
-abbrev pub IsEarlier : ℕ → Operand → Type 0
-IsEarlier n Always = ⊥
-IsEarlier n Never = ⊥
-IsEarlier n (EventIs e sign) = Unit {0}
-IsEarlier n (GateIs g sign) = g < n
+abbrev pub NamesEarlier : ℕ → Operand → Type 0
+NamesEarlier n Always = ⊥
+NamesEarlier n Never = ⊥
+NamesEarlier n (EventIs e sign) = Unit {0}
+NamesEarlier n (GateIs g sign) = g < n
 
 -- each operand names one of the first so many gates, if any
 pub record AreBelow (n : ℕ) (os : List Operand) : Type 0 where
@@ -18,7 +18,7 @@ pub record AreBelow (n : ℕ) (os : List Operand) : Type 0 where
 -- the gate may be the one with this number: it has at least two operands, each an event or an earlier gate
 pub record IsInPlace (n : ℕ) (gate : Gate) : Type 0 where
   pub two : 2 ≤ length gate.operands
-  pub earlier : (o : Operand) → IsOneOf gate.operands o → IsEarlier n o
+  pub earlier : (o : Operand) → IsOneOf gate.operands o → NamesEarlier n o
 
 -- each gate has at least two operands, each an event or an earlier gate
 pub record AreOrdered (gates : List Gate) : Type 0 where
@@ -32,7 +32,7 @@ pub record IsOrderedTable (table : Table) : Type 0 where
 
 -- of ordered gates, and operands that name no later ones, a joint makes ordered gates and an operand that names no
 -- later one
-abbrev pub KeepsOrder : Type 0
-KeepsOrder = (both : Bool) (gates : List Gate) (os : List Operand) → AreOrdered gates → AreBelow (length gates) os
+abbrev pub JointsKeepOrder : Type 0
+JointsKeepOrder = (both : Bool) (gates : List Gate) (os : List Operand) → AreOrdered gates → AreBelow (length gates) os
     → AreOrdered (joined both gates [] os).gates
     × IsBelow (length (joined both gates [] os).gates) (joined both gates [] os).operand

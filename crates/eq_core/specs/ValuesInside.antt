@@ -19,7 +19,7 @@ pub record IsTrueWhere (set : List ℕ) (gates : List Gate) (o : Operand) (P : T
   pub so_true : P → value_at gates o set ≡ true
 
 -- the second list is the first with more gates
-pub record Grows (old new : List Gate) : Type 0 where
+pub record GainsGates (old new : List Gate) : Type 0 where
   pub more : List Gate
   pub is : new ≡ old ++ more
 

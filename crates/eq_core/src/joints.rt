@@ -3,7 +3,7 @@
 ghost use Rattle.std.specs.Prelude.{◌≡◌, ◌<◌, ◌^◌, IfOk, nat_eq, map, length, []};
 ghost use Rattle.std.specs.List.{list_any};
 ghost use Rattle.eq_core.specs.Gates.{joined, closed_as};
-ghost use Rattle.eq_core.specs.Ordered.{AreBelow, AreOrdered, KeepsOrder};
+ghost use Rattle.eq_core.specs.Ordered.{AreBelow, AreOrdered, JointsKeepOrder};
 ghost use Rattle.eq_core.specs.Values.{operand_at, joint_at, values_at};
 ghost use Rattle.eq_core.specs.ValuesInside.{IsBelow};
 ghost use Rattle.ar_base.specs.NumbersInside.{numbers_of};
@@ -157,5 +157,5 @@ fn close(gates: &mut Vec<Gate>, joint: Joint, kept: Vec<Operand>) -> Result<Oper
 /// What is made of ordered gates and operands that name no later gates is in order again, and the operand names no
 /// later gate.
 pub fn joined_in_order()
-    ensures { KeepsOrder }
+    ensures { JointsKeepOrder }
 {}

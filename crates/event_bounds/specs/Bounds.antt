@@ -26,7 +26,7 @@ pub record AllEnd (s : Stored) (to : ℕ) (entries : List ℕ) : Type 0 where
   pub each : (e : ℕ) → IsOneOf entries e → EndsBelow s to e
 
 -- the number has an event below the bound
-pub record HasEvent (s : Stored) (to n : ℕ) : Type 0 where
+pub record NodeHasEvent (s : Stored) (to n : ℕ) : Type 0 where
   pub event : ℕ
   pub lo : ℕ
   pub hi : ℕ
@@ -35,4 +35,4 @@ pub record HasEvent (s : Stored) (to n : ℕ) : Type 0 where
 -- the entry has an event below the bound
 pub record IsReference (s : Stored) (to : ℕ) (entries : List ℕ) (e : ℕ) : Type 0 where
   pub is_entry : IsOneOf entries e
-  pub event : HasEvent s to e
+  pub event : NodeHasEvent s to e

@@ -2,7 +2,7 @@
 
 ghost use Rattle.std.specs.Prelude.{◌≡◌, ◌↔◌, ◌⊎◌, ℕ, MatchOption, true};
 ghost use Rattle.ar_base.specs.Lists.{Stands};
-ghost use Rattle.zdd_nodes.specs.Nodes.{NodeId, IsNumber, IsSoundStore};
+ghost use Rattle.zdd_nodes.specs.Nodes.{NodeId, IsFamilyNumber, IsSoundStore};
 ghost use Rattle.event_bounds.specs.Bounds.{node_numbers, EndsBelow, HasBelow, AllEnd, IsReference};
 
 use ar_base::EventId;
@@ -10,7 +10,7 @@ use zdd_nodes::{NodeId, Store};
 
 /// The event and the halves of a number whose family has an event below the bound. Takes no memory.
 pub fn below(store: &Store, to: u32, number: NodeId) -> Option<(EventId, NodeId, NodeId)>
-    requires { IsNumber store.now number.n }
+    requires { IsFamilyNumber store.now number.n }
     ensures halves { MatchOption result (EndsBelow store.now to number.n)
         (λ t. HasBelow store.now to number.n t.0.n t.1.n t.2.n) }
     ensures sound { IsSoundStore store.now }
@@ -23,7 +23,7 @@ pub fn below(store: &Store, to: u32, number: NodeId) -> Option<(EventId, NodeId,
 
 /// The first of these numbers whose family has an event below the bound. Takes no memory.
 pub fn first_with_event(store: &Store, to: u32, numbers: &[NodeId]) -> Option<NodeId>
-    requires { (k : ℕ) (n : NodeId) → Stands numbers.now k n → IsNumber store.now n.n }
+    requires { (k : ℕ) (n : NodeId) → Stands numbers.now k n → IsFamilyNumber store.now n.n }
     ensures { MatchOption result (AllEnd store.now to (node_numbers numbers.now))
         (λ n. IsReference store.now to (node_numbers numbers.now) n.n) }
 {

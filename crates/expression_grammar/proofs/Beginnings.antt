@@ -12,57 +12,57 @@ use Rattle.expression_grammar.specs.declared.terms.Call.TheVariants.{Least, Grea
 use Rattle.expression_grammar.specs.declared.lexeme.Lexeme.{Lexeme}
 use Rattle.expression_grammar.specs.Words.{Form, token, no_kind, deep, ◌▸◌, between, many, ReadsSome}
 use Rattle.expression_grammar.specs.Paths.{ReadsStart}
-use Rattle.expression_grammar.specs.Chains.{word_of}
+use Rattle.expression_grammar.specs.Chains.{opening_word}
 use Rattle.expression_grammar.specs.Texts.{path_tokens, operands_tokens, primary_tokens, constant, path, brackets, call, switch, expr_tokens, not_tokens, minus_tokens, compare_tokens, sum_tokens, product_tokens, begins_constant, begins_call}
-use Rattle.expression_grammar.specs.Results.{Begins, is_sign, is_word, begins_path, begins_primary, begins_minus, begins_not, begins_expr}
+use Rattle.expression_grammar.specs.Results.{BeginsForm, is_sign, is_word, begins_path, begins_primary, begins_minus, begins_not, begins_expr}
 use Rattle.expression_grammar.proofs.ExpressionForms.{sign_from, word_from}
 use Rattle.expression_grammar.proofs.Standing.{begins_token, begins_one, begins_here, begins_this, begins_nothing, begins_no_more, begins_then, begins_after, begins_map}
 use Rattle.expression_grammar.specs.Parts.{case_tokens}
 
 -- Texts to come
 
-pub some_minus : (m : ℕ) → Begins (minus_tokens deep m) []
+pub some_minus : (m : ℕ) → BeginsForm (minus_tokens deep m) []
 some_minus zero = begins_token no_kind
 some_minus (suc m) = begins_map (begins_one {test = begins_constant} (Reserved TRUE) refl)
     (λ next ts h. inr (constant h))
 
-pub some_compare : (m : ℕ) → Begins (compare_tokens (sum_tokens (product_tokens (minus_tokens deep m)))) []
+pub some_compare : (m : ℕ) → BeginsForm (compare_tokens (sum_tokens (product_tokens (minus_tokens deep m)))) []
 some_compare m = begins_then (begins_then (begins_then (some_minus m) begins_no_more) begins_no_more)
     (begins_map begins_nothing (λ next ts h. inl h))
 
-pub some_not : (m : ℕ) → Begins (not_tokens deep m) []
+pub some_not : (m : ℕ) → BeginsForm (not_tokens deep m) []
 some_not zero = begins_token no_kind
 some_not (suc m) = begins_map (some_compare m) (λ next ts h. inr h)
 
-pub some_expr : (m : ℕ) → Begins (expr_tokens deep m) []
+pub some_expr : (m : ℕ) → BeginsForm (expr_tokens deep m) []
 some_expr zero = begins_token no_kind
 some_expr (suc m) = begins_map (begins_then (begins_then (some_not m) begins_no_more) begins_no_more)
     (λ next ts h. inr h)
 
-pub some_arguments : (m : ℕ) {A : Form} → Begins (many A ▸ token (Sign CLOSE_PARENTHESIS)) []
+pub some_arguments : (m : ℕ) {A : Form} → BeginsForm (many A ▸ token (Sign CLOSE_PARENTHESIS)) []
 some_arguments m = begins_then begins_no_more (begins_token (Sign CLOSE_PARENTHESIS))
 
-pub some_operands : (m : ℕ) → Begins (operands_tokens (expr_tokens deep m)) []
+pub some_operands : (m : ℕ) → BeginsForm (operands_tokens (expr_tokens deep m)) []
 some_operands m = begins_then (begins_token (Sign OPEN_PARENTHESIS)) (begins_then (some_expr m) (some_arguments m))
 
-pub some_case : (m : ℕ) → Begins (case_tokens m) []
+pub some_case : (m : ℕ) → BeginsForm (case_tokens m) []
 some_case m = begins_then (begins_then (begins_token (Reserved CASE))
     (begins_then (some_expr m) (begins_token (Sign COLON)))) (some_expr m)
 
-pub some_default : (m : ℕ) → Begins
+pub some_default : (m : ℕ) → BeginsForm
     (token (Reserved DEFAULT) ▸ between (Sign COLON) (Sign CLOSE_BRACE) (expr_tokens deep m)) []
 some_default m = begins_then (begins_token (Reserved DEFAULT))
     (begins_then (begins_token (Sign COLON)) (begins_then (some_expr m) (begins_token (Sign CLOSE_BRACE))))
 
-pub some_else : (m : ℕ) → Begins (token (Reserved ELSE) ▸ expr_tokens deep m) []
+pub some_else : (m : ℕ) → BeginsForm (token (Reserved ELSE) ▸ expr_tokens deep m) []
 some_else m = begins_then (begins_token (Reserved ELSE)) (some_expr m)
 
 -- Texts of which the first token was passed
 
-pub path_at : (t : Lexeme) → begins_path t.kind ≡ true → Begins path_tokens (t ∷ [])
+pub path_at : (t : Lexeme) → begins_path t.kind ≡ true → BeginsForm path_tokens (t ∷ [])
 path_at t h = by_kind t.kind refl h
   where
-    by_word : (w : ℕ) → t.kind ≡ Reserved w → ((w == OWNER) ≡ true) ⊎ ((w == MAIN) ≡ true) → Begins path_tokens (t ∷ [])
+    by_word : (w : ℕ) → t.kind ≡ Reserved w → ((w == OWNER) ≡ true) ⊎ ((w == MAIN) ≡ true) → BeginsForm path_tokens (t ∷ [])
     by_word w e (inl q) = begins_then (begins_map
         (begins_then (begins_here t (Reserved OWNER) (e ∙ ap Reserved (eqb-true w OWNER q))) (begins_token (Sign DOT)))
         (λ next ts h. (Owner, h))) (begins_then (begins_token Name) begins_no_more)
@@ -70,7 +70,7 @@ path_at t h = by_kind t.kind refl h
         (begins_then (begins_here t (Reserved MAIN) (e ∙ ap Reserved (eqb-true w MAIN q))) (begins_token (Sign DOT)))
         (λ next ts h. (Main, h))) (begins_then (begins_token Name) begins_no_more)
 
-    by_kind : (k : TokenKind) → t.kind ≡ k → begins_path k ≡ true → Begins path_tokens (t ∷ [])
+    by_kind : (k : TokenKind) → t.kind ≡ k → begins_path k ≡ true → BeginsForm path_tokens (t ∷ [])
     by_kind Name e h = begins_after {A = ReadsSome ReadsStart} (λ next. (Here, refl))
         (begins_then (begins_here t Name e) begins_no_more)
     by_kind (Reserved w) e h = by_word w e (or_cases (w == OWNER) (w == MAIN) h)
@@ -112,7 +112,7 @@ primary_kind (Reserved w) h = by_word
     by_word (inr (inr (inr p))) = inr (inr (inr (inl (ap Reserved (eqb-true w SWITCH p)))))
 primary_kind End h = absurd (cc)
 
-primary_at : (m : ℕ) (t : Lexeme) → Primary t.kind → Begins (primary_tokens (expr_tokens deep m)) (t ∷ [])
+primary_at : (m : ℕ) (t : Lexeme) → Primary t.kind → BeginsForm (primary_tokens (expr_tokens deep m)) (t ∷ [])
 primary_at m t (inl p) = begins_map (path_at t p) (λ next ts h. path h)
 primary_at m t (inr (inl p)) = begins_map (begins_this {test = begins_constant} t p) (λ next ts h. constant h)
 primary_at m t (inr (inr (inl p))) =
@@ -125,31 +125,31 @@ primary_at m t (inr (inr (inr (inr p)))) =
     begins_map (begins_then (begins_here t (Sign OPEN_PARENTHESIS) p)
     (begins_then (some_expr m) (begins_token (Sign CLOSE_PARENTHESIS)))) (λ next ts h. brackets h)
 
-pub minus_at : (m : ℕ) (t : Lexeme) → begins_minus t.kind ≡ true → Begins (minus_tokens deep (suc m)) (t ∷ [])
+pub minus_at : (m : ℕ) (t : Lexeme) → begins_minus t.kind ≡ true → BeginsForm (minus_tokens deep (suc m)) (t ∷ [])
 minus_at m t h = by_either (or_cases (is_sign MINUS t.kind) (begins_primary t.kind) h)
   where
     by_either : (is_sign MINUS t.kind ≡ true) ⊎ (begins_primary t.kind ≡ true)
-        → Begins (minus_tokens deep (suc m)) (t ∷ [])
+        → BeginsForm (minus_tokens deep (suc m)) (t ∷ [])
     by_either (inl p) = begins_map (begins_then (begins_here t (Sign MINUS) (sign_from MINUS t.kind p)) (some_minus m))
         (λ next ts h. inl h)
     by_either (inr p) = begins_map (primary_at m t (primary_kind t.kind p)) (λ next ts h. inr h)
 
-pub not_at : (m : ℕ) (t : Lexeme) → begins_not t.kind ≡ true → Begins (not_tokens deep (suc (suc m))) (t ∷ [])
+pub not_at : (m : ℕ) (t : Lexeme) → begins_not t.kind ≡ true → BeginsForm (not_tokens deep (suc (suc m))) (t ∷ [])
 not_at m t h = by_either (or_cases (is_word NOT t.kind) (begins_minus t.kind) h)
   where
     by_either : (is_word NOT t.kind ≡ true) ⊎ (begins_minus t.kind ≡ true)
-        → Begins (not_tokens deep (suc (suc m))) (t ∷ [])
+        → BeginsForm (not_tokens deep (suc (suc m))) (t ∷ [])
     by_either (inl p) = begins_map (begins_then (begins_here t (Reserved NOT) (word_from NOT t.kind p))
         (some_not (suc m))) (λ next ts h. inl h)
     by_either (inr p) = begins_map (begins_then
         (begins_then (begins_then (minus_at m t p) begins_no_more) begins_no_more)
         (begins_map begins_nothing (λ next ts h. inl h))) (λ next ts h. inr h)
 
-pub expr_at : (m : ℕ) (t : Lexeme) → begins_expr t.kind ≡ true → Begins (expr_tokens deep (suc (suc (suc m)))) (t ∷ [])
+pub expr_at : (m : ℕ) (t : Lexeme) → begins_expr t.kind ≡ true → BeginsForm (expr_tokens deep (suc (suc (suc m)))) (t ∷ [])
 expr_at m t h = by_either (or_cases (is_word IF t.kind) (begins_not t.kind) h)
   where
     by_either : (is_word IF t.kind ≡ true) ⊎ (begins_not t.kind ≡ true)
-        → Begins (expr_tokens deep (suc (suc (suc m)))) (t ∷ [])
+        → BeginsForm (expr_tokens deep (suc (suc (suc m)))) (t ∷ [])
     by_either (inl p) = begins_map (begins_then
         (begins_then (begins_here t (Reserved IF) (word_from IF t.kind p))
         (begins_then (some_expr (suc (suc m))) (begins_token (Reserved THEN))))
@@ -157,7 +157,7 @@ expr_at m t h = by_either (or_cases (is_word IF t.kind) (begins_not t.kind) h)
     by_either (inr p) = begins_map (begins_then (begins_then (not_at m t p) begins_no_more) begins_no_more)
         (λ next ts h. inr h)
 
-pub call_one : (c : Call) → begins_call (word_of c) ≡ true
+pub call_one : (c : Call) → begins_call (opening_word c) ≡ true
 call_one Least = refl
 call_one Greatest = refl
 call_one Count = refl

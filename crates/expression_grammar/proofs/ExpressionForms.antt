@@ -8,7 +8,7 @@ use Rattle.ar_syntax.specs.declared.expressions.RawForm.{RawForm}
 use Rattle.expression_grammar.specs.declared.lexeme.Lexeme.{Lexeme}
 use Rattle.expression_grammar.specs.Words.{Form, Tokens, kind_or, token, ◌▸◌, StandsAt, IsSpanOf}
 use Rattle.expression_grammar.specs.Expressions.{Node}
-use Rattle.expression_grammar.specs.Results.{kind_at, Spans, is_sign, is_word}
+use Rattle.expression_grammar.specs.Results.{first_token_kind, Spans, is_sign, is_word}
 use Rattle.expression_grammar.proofs.Finding.{kind_join}
 
 -- Forms one behind the other
@@ -81,9 +81,9 @@ node_made A Is e f {old} {new} p s some made = record {
   front = s.front;
   split = s.split;
   form = record {
-    there = stands s.front s.split (some (kind_at new) s.front s.form);
+    there = stands s.front s.split (some (first_token_kind new) s.front s.form);
     span_is = p.span s.front s.split;
-    form = subst (λ (g : RawForm). Is g (kind_at new) s.front) (sym p.form) (made (kind_at new) s.front s.form);
+    form = subst (λ (g : RawForm). Is g (first_token_kind new) s.front) (sym p.form) (made (first_token_kind new) s.front s.form);
   };
 }
   where

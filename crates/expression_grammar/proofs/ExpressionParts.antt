@@ -17,7 +17,7 @@ use Rattle.expression_grammar.specs.declared.terms.Chain.TheVariants.{Any, All, 
 use Rattle.expression_grammar.specs.Words.{Tokens, token, ◌▸◌, between, each, separated_by}
 use Rattle.expression_grammar.specs.Expressions.{Node, one, more, ReadsProduct, ReadsTerm, ReadsTerms, ReadsSum, ReadsCompare, two, sign_of, negated, plain, ReadsIf, choice, ReadsPrimary, ReadsExpr, ReadsNot, ReadsMinus}
 use Rattle.expression_grammar.specs.Chains.{separator_of, chain_of, operand_form, chain_form, ends_operand, ends_chain, IsComparison, IsOneCase}
-use Rattle.expression_grammar.specs.Results.{kind_at, Spans, Eats, begins_term, is_relation, ends_path, ends_product, ends_sum, ends_not, ends_and}
+use Rattle.expression_grammar.specs.Results.{first_token_kind, Spans, Eats, begins_term, is_relation, ends_path, ends_product, ends_sum, ends_not, ends_and}
 use Rattle.expression_grammar.proofs.Finding.{spans_then, spans_map}
 use Rattle.expression_grammar.proofs.ExpressionForms.{then_assoc, then_some, token_some, node_some, Places, node_made, and_left}
 
@@ -92,7 +92,7 @@ pub chain_made : (c : Chain) (n : ℕ) (first : RawExpr) (rest : List RawExpr) (
     {old mid new : Tokens} → v.items ≡ first ∷ rest → Places e (chain_of c v) old new →
     Spans (Node (operand_form c n) first) old mid
     → Spans (each (λ x. token (separator_of c) ▸ Node (operand_form c n) x) rest) mid new
-    → kind_at mid ≡ separator_of c → kind_at new ≢ separator_of c → Spans (Node (chain_form c n) e) old new
+    → first_token_kind mid ≡ separator_of c → first_token_kind new ≢ separator_of c → Spans (Node (chain_form c n) e) old new
 chain_made c n first rest v e {old} {mid} {new} items p a b at over =
     node_made (Node (operand_form c n) first ▸ each (λ x. token (separator_of c) ▸ Node (operand_form c n) x) rest)
     (chain_form c n) e (chain_of c v) p (spans_then a b)
@@ -102,7 +102,7 @@ chain_made c n first rest v e {old} {mid} {new} items p a b at over =
   where
     none : (rest : List RawExpr) → Spans (each (λ x. token (separator_of c) ▸ Node (operand_form c n) x) rest) mid new
         → rest ≡ [] → ⊥
-    none [] s z = over (sym (ap kind_at (s.split ∙ ap (λ (t : Tokens). t ++ new) s.form)) ∙ at)
+    none [] s z = over (sym (ap first_token_kind (s.split ∙ ap (λ (t : Tokens). t ++ new) s.form)) ∙ at)
     none (x ∷ rest) s z = absurd (cc)
 
 -- Not
@@ -195,7 +195,7 @@ pub sum_made : (n : ℕ) (first : RawExpr) (rest : List (Bool × RawExpr)) (v : 
     {old mid new : Tokens} → v.items ≡ (true, first) ∷ rest → Places e (form.Sum v) old new →
     Spans (Node (chain_form Product n) first) old mid → Spans (each (ReadsTerm (ReadsProduct (ReadsMinus n))) rest) mid
     new
-    → begins_term (kind_at mid) ≡ true → begins_term (kind_at new) ≡ false
+    → begins_term (first_token_kind mid) ≡ true → begins_term (first_token_kind new) ≡ false
     → Spans (Node (ReadsSum (ReadsProduct (ReadsMinus n))) e) old new
 sum_made n first rest v e {old} {mid} {new} items p a b at over =
     node_made (Node (ReadsProduct (ReadsMinus n)) first ▸ each (ReadsTerm (ReadsProduct (ReadsMinus n))) rest)
@@ -207,7 +207,7 @@ sum_made n first rest v e {old} {mid} {new} items p a b at over =
   where
     none : (rest : List (Bool × RawExpr)) → Spans (each (ReadsTerm (ReadsProduct (ReadsMinus n))) rest) mid new
         → rest ≡ [] → ⊥
-    none [] s z = let q : true ≡ false = sym at ∙ ap begins_term (ap kind_at (s.split ∙ ap (λ (t : Tokens). t ++ new) s.form)) ∙ over in absurd (cc)
+    none [] s z = let q : true ≡ false = sym at ∙ ap begins_term (ap first_token_kind (s.split ∙ ap (λ (t : Tokens). t ++ new) s.form)) ∙ over in absurd (cc)
     none (x ∷ rest) s z = absurd (cc)
 
 -- Minus

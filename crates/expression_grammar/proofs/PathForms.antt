@@ -8,7 +8,7 @@ use Rattle.ar_syntax.specs.declared.paths.PathStart.TheVariants.{Here, Owner, Ma
 use Rattle.ar_base.specs.Numbers.{NameId}
 use Rattle.expression_grammar.specs.Words.{Form, Tokens, kind_or, token, nothing, ◌▸◌, each, separated_by, StandsAt, ReadsSome, place_at}
 use Rattle.expression_grammar.specs.Paths.{ReadsName, ReadsStart, ReadsPath}
-use Rattle.expression_grammar.specs.Results.{Spans, kind_at, is_name, is_word}
+use Rattle.expression_grammar.specs.Results.{Spans, first_token_kind, is_name, is_word}
 use Rattle.std.specs.Prelude.{Vec}
 use Rattle.std.specs.declared.alloc.Global.{Global}
 use Rattle.ar_base.specs.declared.places.Place.{Place}
@@ -76,7 +76,7 @@ path_made end start v more {old} {mid} {rest} {new} {at} {first} a s f m e =
       form = record {
         there = subst (λ (p : Place). StandsAt p whole.front) (sym a)
             (stands_there end whole.front old new whole.split (path_some start whole.form));
-        form = subst (λ (xs : List NameId). (ReadsStart start ▸ separated_by (Sign DOT) ReadsName xs) (kind_at new)
+        form = subst (λ (xs : List NameId). (ReadsStart start ▸ separated_by (Sign DOT) ReadsName xs) (first_token_kind new)
             whole.front) (sym e) whole.form;
       };
     }

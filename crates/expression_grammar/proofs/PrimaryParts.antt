@@ -14,7 +14,7 @@ use Rattle.expression_grammar.specs.declared.terms.Call.TheVariants.{Least, Grea
 use Rattle.expression_grammar.specs.Words.{Form, Tokens, token, ◌▸◌, between, each}
 use Rattle.expression_grammar.specs.Paths.{ReadsPath}
 use Rattle.expression_grammar.specs.Expressions.{Node, ReadsCase, ReadsSwitch, ReadsOperands, ReadsPrimary, truth, falsehood, whole, real, path, brackets, least, greatest, count, switch, ReadsExpr}
-use Rattle.expression_grammar.specs.Chains.{separator_of, chain_of, operand_form, chain_form, ends_operand, ends_chain, IsConstant, word_of, call_of, IsComparison, IsOneCase}
+use Rattle.expression_grammar.specs.Chains.{separator_of, chain_of, operand_form, chain_form, ends_operand, ends_chain, IsConstant, opening_word, call_of, IsComparison, IsOneCase}
 use Rattle.expression_grammar.specs.Chains as constant
 use Rattle.expression_grammar.specs.Results.{Spans}
 use Rattle.expression_grammar.proofs.Finding.{spans_then}
@@ -57,19 +57,19 @@ pub switch_in : (n : ℕ) (e : RawExpr) (next : TokenKind) (ts : Tokens) → Nod
 switch_in n e next ts h = record { there = h.there; span_is = h.span_is; form = switch h.form }
 
 call_is : (n : ℕ) (c : Call) (v : Vec RawExpr Global) (next : TokenKind) (ts : Tokens)
-    → (token (word_of c) ▸ ReadsOperands (ReadsExpr n) v.items) next ts
+    → (token (opening_word c) ▸ ReadsOperands (ReadsExpr n) v.items) next ts
     → ReadsPrimary (ReadsExpr n) (call_of c v) next ts
 call_is n Least v next ts h = least v refl h
 call_is n Greatest v next ts h = greatest v refl h
 call_is n Count v next ts h = count v refl h
 
 pub call_made : (n : ℕ) (c : Call) (v : Vec RawExpr Global) (e : RawExpr) {old mid new : Tokens}
-    → Places e (call_of c v) old new → Spans (token (word_of c)) old mid
+    → Places e (call_of c v) old new → Spans (token (opening_word c)) old mid
     → Spans (ReadsOperands (ReadsExpr n) v.items) mid new → Spans (Node (ReadsPrimary (ReadsExpr n)) e) old new
 call_made n c v e p a b =
-    node_made (token (word_of c) ▸ ReadsOperands (ReadsExpr n) v.items) (ReadsPrimary (ReadsExpr n)) e (call_of c v) p
+    node_made (token (opening_word c) ▸ ReadsOperands (ReadsExpr n) v.items) (ReadsPrimary (ReadsExpr n)) e (call_of c v) p
     (spans_then a b)
-    (λ next ts h. then_some h (token_some (word_of c))) (call_is n c v)
+    (λ next ts h. then_some h (token_some (opening_word c))) (call_is n c v)
 
 path_some : (p : Path) (next : TokenKind) (ts : Tokens) → ReadsPath p next ts → ts ≡ [] → ⊥
 path_some p next [] h z = h.there

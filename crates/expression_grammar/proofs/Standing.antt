@@ -8,7 +8,7 @@ use Rattle.expression_grammar.specs.declared.lexeme.Refusal.{Refusal}
 use Rattle.expression_grammar.specs.declared.lexeme.Refusal.TheVariants.{Syntax, Depth, Memory}
 use Rattle.expression_grammar.specs.Words.{Form, Tokens, kind_or, token, ◌▸◌, nothing, each, many}
 use Rattle.expression_grammar.specs.Texts.{one_of}
-use Rattle.expression_grammar.specs.Results.{kind_at, Spans, Eats, Begins, Tells, before, through, Refuses, Halts}
+use Rattle.expression_grammar.specs.Results.{first_token_kind, Spans, Eats, BeginsForm, TellsRefusal, before, through, Refuses, Halts}
 use Rattle.expression_grammar.proofs.Finding.{spans_token, spans_expected, each_push}
 
 -- Forms whose texts stay texts whatever follows them
@@ -58,7 +58,7 @@ pub passes : {A : Form} {P : ℕ → Form} {left : ℕ} {old mid : Tokens} → S
 passes {mid = mid} s f = record {
   front = s.front;
   split = s.split;
-  form = λ m l next. f m l (kind_at mid) next s.front s.form;
+  form = λ m l next. f m l (first_token_kind mid) next s.front s.form;
 }
 
 pub passes_token : {k : TokenKind} {left : ℕ} {old mid : Tokens} → Eats k old mid → Passes (λ m. token k) left old mid
@@ -86,32 +86,32 @@ some_token k = record {
   name = record { n = 0; of = record {} };
 }
 
-pub begins_token : (k : TokenKind) → Begins (token k) []
+pub begins_token : (k : TokenKind) → BeginsForm (token k) []
 begins_token k = record {
   more = some_token k ∷ [];
   form = λ next. record { one = some_token k; alone = refl; of_kind = refl };
 }
 
-pub begins_one : {test : TokenKind → Bool} (k : TokenKind) → test k ≡ true → Begins (one_of test) []
+pub begins_one : {test : TokenKind → Bool} (k : TokenKind) → test k ≡ true → BeginsForm (one_of test) []
 begins_one k e = record {
   more = some_token k ∷ [];
   form = λ next. record { one = some_token k; alone = refl; passes = e };
 }
 
 -- a token that stands there
-pub begins_here : (t : Lexeme) (k : TokenKind) → t.kind ≡ k → Begins (token k) (t ∷ [])
+pub begins_here : (t : Lexeme) (k : TokenKind) → t.kind ≡ k → BeginsForm (token k) (t ∷ [])
 begins_here t k e = record { more = []; form = λ next. record { one = t; alone = refl; of_kind = e } }
 
-pub begins_this : {test : TokenKind → Bool} (t : Lexeme) → test t.kind ≡ true → Begins (one_of test) (t ∷ [])
+pub begins_this : {test : TokenKind → Bool} (t : Lexeme) → test t.kind ≡ true → BeginsForm (one_of test) (t ∷ [])
 begins_this t e = record { more = []; form = λ next. record { one = t; alone = refl; passes = e } }
 
-pub begins_nothing : Begins nothing []
+pub begins_nothing : BeginsForm nothing []
 begins_nothing = record { more = []; form = λ next. refl }
 
-pub begins_no_more : {A : Form} → Begins (many A) []
+pub begins_no_more : {A : Form} → BeginsForm (many A) []
 begins_no_more = record { more = []; form = λ next. ([], refl) }
 
-pub begins_then : {A B : Form} {front : Tokens} → Begins A front → Begins B [] → Begins (A ▸ B) front
+pub begins_then : {A B : Form} {front : Tokens} → BeginsForm A front → BeginsForm B [] → BeginsForm (A ▸ B) front
 begins_then {front = front} a b = record {
   more = a.more ++ b.more;
   form = λ next. record {
@@ -124,8 +124,8 @@ begins_then {front = front} a b = record {
 }
 
 -- nothing of the first form
-pub begins_after : {A B : Form} {front : Tokens} → ((next : TokenKind) → A next []) → Begins B front
-    → Begins (A ▸ B) front
+pub begins_after : {A B : Form} {front : Tokens} → ((next : TokenKind) → A next []) → BeginsForm B front
+    → BeginsForm (A ▸ B) front
 begins_after {front = front} a b = record {
   more = b.more;
   form = λ next. record {
@@ -137,25 +137,25 @@ begins_after {front = front} a b = record {
   };
 }
 
-pub begins_map : {A B : Form} {front : Tokens} → Begins A front
-    → ((next : TokenKind) (ts : Tokens) → A next ts → B next ts) → Begins B front
+pub begins_map : {A B : Form} {front : Tokens} → BeginsForm A front
+    → ((next : TokenKind) (ts : Tokens) → A next ts → B next ts) → BeginsForm B front
 begins_map {front = front} a f = record { more = a.more; form = λ next. f next (front ++ a.more) (a.form next) }
 
 -- What a refusal tells
 
-pub tells_most : {left m : ℕ} {e : Refusal} {new more : Tokens} → Tells left e new m more → left ≤ m
+pub tells_most : {left m : ℕ} {e : Refusal} {new more : Tokens} → TellsRefusal left e new m more → left ≤ m
 tells_most (before h z) = omega (arith, h)
 tells_most (through t rest d n h z) = omega (arith, h)
 
-tells_inside : {left m : ℕ} {e : Refusal} {new more : Tokens} → left ≢ 0 → Tells left e new m more
-    → (k : ℕ) × (m ≡ suc k) × Tells (left - 1) e new k more
+tells_inside : {left m : ℕ} {e : Refusal} {new more : Tokens} → left ≢ 0 → TellsRefusal left e new m more
+    → (k : ℕ) × (m ≡ suc k) × TellsRefusal (left - 1) e new k more
 tells_inside {left = left} some (before h z) = (left - 1, omega (arith, some, h), before refl z)
 tells_inside {left = left} some (through t rest d n h z) =
     (left - 1 + 3, omega (arith, some, h), through t rest d n refl z)
 
 module _ {P Q : ℕ → Form} {left : ℕ} {e : Refusal} where
   -- the first of two forms is refused, whatever was to come
-  pub refuses_fails : {old new : Tokens} → Refuses P left e old new → ((m : ℕ) → Begins (Q m) [])
+  pub refuses_fails : {old new : Tokens} → Refuses P left e old new → ((m : ℕ) → BeginsForm (Q m) [])
       → Refuses (λ m. P m ▸ Q m) left e old new
   refuses_fails r q n = let s = r n in record { front = s.front; passed = s.passed; opens = s.opens; tells = λ m more t. begins_then (s.tells m more t) (q m) }
 
@@ -190,7 +190,7 @@ module _ {P Q : ℕ → Form} {left : ℕ} {e : Refusal} where
     front = s.front;
     passed = s.passed;
     opens = s.opens;
-    tells = λ m more t. let d = tells_inside some t in subst (λ (k : ℕ). Begins (Q k) (s.front ++ more)) (sym d.1) (begins_map (s.tells d.0 more d.2) (f d.0));
+    tells = λ m more t. let d = tells_inside some t in subst (λ (k : ℕ). BeginsForm (Q k) (s.front ++ more)) (sym d.1) (begins_map (s.tells d.0 more d.2) (f d.0));
   }
 
 pub refuses_from : {P : ℕ → Form} {left : ℕ} {e : Refusal} {old old' new : Tokens} → Refuses P left e old new
@@ -232,7 +232,7 @@ refuses_some {A} p r = refuses_map (refuses_then p r)
     (each_push (λ (x : Unit {0}). A m) h.first.0 tt h.front h.back next h.first.1 h.second)))
 
 -- the next token is refused
-pub refuses_here : {P : ℕ → Form} {left : ℕ} (e : Refusal) {old : Tokens} → e ≡ Syntax → ((m : ℕ) → Begins (P m) [])
+pub refuses_here : {P : ℕ → Form} {left : ℕ} (e : Refusal) {old : Tokens} → e ≡ Syntax → ((m : ℕ) → BeginsForm (P m) [])
     → Refuses P left e old old
 refuses_here {P} {left} Syntax {old} q b n = record {
   front = [];
@@ -241,37 +241,37 @@ refuses_here {P} {left} Syntax {old} q b n = record {
   tells = λ m more t. by_case m more t;
 }
   where
-    by_case : (m : ℕ) (more : Tokens) → Tells left Syntax old m more → Begins (P m) more
-    by_case m more (before h z) = subst (λ (x : Tokens). Begins (P m) x) (sym z) (b m)
+    by_case : (m : ℕ) (more : Tokens) → TellsRefusal left Syntax old m more → BeginsForm (P m) more
+    by_case m more (before h z) = subst (λ (x : Tokens). BeginsForm (P m) x) (sym z) (b m)
     by_case m more (through t rest d k h z) = absurd (cc)
 refuses_here Depth q b n = absurd (cc)
 refuses_here Memory q b n = absurd (n refl)
 
 -- the next token opens a production for which there is no room
 pub refuses_deep : {P : ℕ → Form} {left : ℕ} (e : Refusal) {old : Tokens} (test : TokenKind → Bool) → e ≡ Depth
-    → test (kind_at old) ≡ true → test End ≡ false → left ≡ 0 → ((m : ℕ) → Begins (P m) [])
-    → ((t : Lexeme) → test t.kind ≡ true → Begins (P 3) (t ∷ [])) → Refuses P left e old old
+    → test (first_token_kind old) ≡ true → test End ≡ false → left ≡ 0 → ((m : ℕ) → BeginsForm (P m) [])
+    → ((t : Lexeme) → test t.kind ≡ true → BeginsForm (P 3) (t ∷ [])) → Refuses P left e old old
 refuses_deep {P} {left} Depth {old} test q holds over none b first n = record {
   front = [];
   passed = refl;
-  opens = λ d z. let w : true ≡ false = sym holds ∙ ap (λ (s : Tokens). test (kind_at s)) z ∙ over in absurd (cc);
+  opens = λ d z. let w : true ≡ false = sym holds ∙ ap (λ (s : Tokens). test (first_token_kind s)) z ∙ over in absurd (cc);
   tells = λ m more t. by_case m more t;
 }
   where
-    by_case : (m : ℕ) (more : Tokens) → Tells left Depth old m more → Begins (P m) more
-    by_case m more (before h z) = subst (λ (x : Tokens). Begins (P m) x) (sym z) (b m)
+    by_case : (m : ℕ) (more : Tokens) → TellsRefusal left Depth old m more → BeginsForm (P m) more
+    by_case m more (before h z) = subst (λ (x : Tokens). BeginsForm (P m) x) (sym z) (b m)
     by_case m more (through t rest d k h z) =
         let three : m ≡ 3 = omega (arith, none, h) in
-        subst (λ (x : Tokens). Begins (P m) x) (sym z)
-        (subst (λ (x : ℕ). Begins (P x) (t ∷ [])) (sym three)
-        (first t (sym (ap (λ (s : Tokens). test (kind_at s)) k) ∙ holds)))
+        subst (λ (x : Tokens). BeginsForm (P m) x) (sym z)
+        (subst (λ (x : ℕ). BeginsForm (P x) (t ∷ [])) (sym three)
+        (first t (sym (ap (λ (s : Tokens). test (first_token_kind s)) k) ∙ holds)))
 refuses_deep Syntax test q holds over none b first n = absurd (cc)
 refuses_deep Memory test q holds over none b first n = absurd (n refl)
 
 -- no room is left for what may begin here
 pub refuses_no_room : {P : ℕ → Form} {left : ℕ} {old : Tokens} (test : TokenKind → Bool) (b : Bool) (e : Refusal)
-    → b ≡ test (kind_at old) → OnTrue b (e ≡ Depth) → OnFalse b (e ≡ Syntax) → test End ≡ false → left ≡ 0
-    → ((m : ℕ) → Begins (P m) []) → ((t : Lexeme) → test t.kind ≡ true → Begins (P 3) (t ∷ []))
+    → b ≡ test (first_token_kind old) → OnTrue b (e ≡ Depth) → OnFalse b (e ≡ Syntax) → test End ≡ false → left ≡ 0
+    → ((m : ℕ) → BeginsForm (P m) []) → ((t : Lexeme) → test t.kind ≡ true → BeginsForm (P 3) (t ∷ []))
     → Refuses P left e old old
 refuses_no_room test true e t deep other over none some first = refuses_deep e test deep (sym t) over none some first
 refuses_no_room test false e t deep other over none some first = refuses_here e other some

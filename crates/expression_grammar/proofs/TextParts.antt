@@ -15,7 +15,7 @@ use Rattle.expression_grammar.specs.declared.terms.Chain.TheVariants.{Any}
 use Rattle.expression_grammar.specs.Words.{Form, Tokens, kind_or, token, no_kind, deep, nothing, ◌▸◌, ◌∣◌, between, many, ReadsSome}
 use Rattle.expression_grammar.specs.Paths.{ReadsStart}
 use Rattle.expression_grammar.specs.Expressions.{sign_of}
-use Rattle.expression_grammar.specs.Chains.{separator_of, word_of, ends_operand, ends_chain}
+use Rattle.expression_grammar.specs.Chains.{separator_of, opening_word, ends_operand, ends_chain}
 use Rattle.expression_grammar.specs.Texts.{one_of, path_tokens, plus_tokens, product_tokens, sum_tokens, relation_tokens, compare_tokens, or_tokens, if_tokens, switch_tokens, operands_tokens, primary_tokens, constant, path, brackets, call, switch, expr_tokens, not_tokens, minus_tokens, begins_constant, begins_call}
 use Rattle.expression_grammar.specs.Results.{is_sign, is_word, begins_path, begins_primary, begins_minus, begins_not, begins_expr, begins_term, is_relation, anything, ends_product, ends_sum, ends_not, ends_expr, ends_list, ends_cases}
 use Rattle.expression_grammar.proofs.Finding.{Follows, inside, kind_join, token_kind, then_kind, apart, fails, follows_many}
@@ -79,14 +79,14 @@ constant_primary Name e = refl
 constant_primary (Sign s) e = absurd (cc)
 constant_primary End e = absurd (cc)
 
-pub call_from : (k : TokenKind) → begins_call k ≡ true → (c : Call) × (k ≡ word_of c)
+pub call_from : (k : TokenKind) → begins_call k ≡ true → (c : Call) × (k ≡ opening_word c)
 call_from (Reserved w) e = by_either (or_cases ((w == MIN) || (w == MAX)) (w == COUNT) e)
   where
-    by_first : ((w == MIN) ≡ true) ⊎ ((w == MAX) ≡ true) → (c : Call) × (Reserved w ≡ word_of c)
+    by_first : ((w == MIN) ≡ true) ⊎ ((w == MAX) ≡ true) → (c : Call) × (Reserved w ≡ opening_word c)
     by_first (inl q) = (Least, ap Reserved (eqb-true w MIN q))
     by_first (inr q) = (Greatest, ap Reserved (eqb-true w MAX q))
 
-    by_either : (((w == MIN) || (w == MAX)) ≡ true) ⊎ ((w == COUNT) ≡ true) → (c : Call) × (Reserved w ≡ word_of c)
+    by_either : (((w == MIN) || (w == MAX)) ≡ true) ⊎ ((w == COUNT) ≡ true) → (c : Call) × (Reserved w ≡ opening_word c)
     by_either (inl q) = by_first (or_cases (w == MIN) (w == MAX) q)
     by_either (inr q) = (Count, ap Reserved (eqb-true w COUNT q))
 call_from Name e = absurd (cc)
@@ -99,7 +99,7 @@ pub call_begins : (test : TokenKind → Bool) → test (Reserved MIN) ≡ true �
     → test (Reserved COUNT) ≡ true → (k : TokenKind) → begins_call k ≡ true → test k ≡ true
 call_begins test a b c k e = by_word (call_from k e)
   where
-    by_word : (c : Call) × (k ≡ word_of c) → test k ≡ true
+    by_word : (c : Call) × (k ≡ opening_word c) → test k ≡ true
     by_word (Least, q) = ap test q ∙ a
     by_word (Greatest, q) = ap test q ∙ b
     by_word (Count, q) = ap test q ∙ c
@@ -312,13 +312,13 @@ primary_switch n next ts (call h) q = fails begins_call (one_kind h.first) (sym 
 primary_switch n next ts (switch h) q = h
 
 pub call_word : (test : TokenKind → Bool) → test (Reserved MIN) ≡ false → test (Reserved MAX) ≡ false
-    → test (Reserved COUNT) ≡ false → (c : Call) → test (word_of c) ≡ false
+    → test (Reserved COUNT) ≡ false → (c : Call) → test (opening_word c) ≡ false
 call_word test a b d Least = a
 call_word test a b d Greatest = b
 call_word test a b d Count = d
 
 pub primary_call : (n : ℕ) (c : Call) (next : TokenKind) (ts : Tokens) → primary_tokens (expr_tokens deep n) next ts
-    → kind_or next ts ≡ word_of c → (token (word_of c) ▸ operands_tokens (expr_tokens deep n)) next ts
+    → kind_or next ts ≡ opening_word c → (token (opening_word c) ▸ operands_tokens (expr_tokens deep n)) next ts
 primary_call n c next ts (constant h) q =
     fails begins_constant (one_kind h) q (call_word begins_constant refl refl refl c)
 primary_call n c next ts (path h) q =

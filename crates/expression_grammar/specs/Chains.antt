@@ -59,10 +59,10 @@ pub data IsConstant (f : RawForm) (k : TokenKind) : Type 0 where
   real : f ≡ form.Real → k ≡ Real → IsConstant f k
 
 -- the reserved word that a call begins with
-abbrev pub word_of : Call → TokenKind
-word_of call.Least = Reserved MIN
-word_of call.Greatest = Reserved MAX
-word_of call.Count = Reserved COUNT
+abbrev pub opening_word : Call → TokenKind
+opening_word call.Least = Reserved MIN
+opening_word call.Greatest = Reserved MAX
+opening_word call.Count = Reserved COUNT
 
 -- the form of a call of these operands
 abbrev pub call_of : Call → Vec RawExpr Global → RawForm

@@ -10,18 +10,18 @@ use Rattle.expression_grammar.specs.declared.lexeme.Refusal.TheVariants.{Syntax,
 use Rattle.expression_grammar.specs.Words.{Form, Tokens, kind_or, no_kind}
 
 -- the kind of the first token; the end of the text where there is none
-abbrev pub kind_at : Tokens → TokenKind
-kind_at = kind_or End
+abbrev pub first_token_kind : Tokens → TokenKind
+first_token_kind = kind_or End
 
 -- The front of the tokens that was taken has this form.
 pub record Spans (A : Form) (old new : Tokens) : Type 0 where
   pub front : Tokens
   pub split : old ≡ front ++ new
-  pub form : A (kind_at new) front
+  pub form : A (first_token_kind new) front
 
 -- What was taken is of the value that is answered.
-abbrev pub Takes : {A : Type 0} → (A → Form) → Result A Refusal → Tokens → Tokens → Type 0
-Takes One result old new = IfOk result (λ x. Spans (One x) old new)
+abbrev pub TakesTokens : {A : Type 0} → (A → Form) → Result A Refusal → Tokens → Tokens → Type 0
+TakesTokens One result old new = IfOk result (λ x. Spans (One x) old new)
 
 -- How a call with room for `left` open productions may end where a text of nesting n goes to `after`: there, or by
 -- want of room or of memory.
@@ -38,37 +38,37 @@ Plain (t ∷ ts) = (t.kind ≢ no_kind) × Plain ts
 
 -- The call stands at `new`. Whatever stood there in its place, if its first token had the same kind: a front of this
 -- form, of any nesting, with what ends it behind it, would end right there.
-pub record Finds {A : Type 0} (P : ℕ → Form) (ends : TokenKind → Bool) (left : ℕ) (result : Result A Refusal)
+pub record FindsRefusal {A : Type 0} (P : ℕ → Form) (ends : TokenKind → Bool) (left : ℕ) (result : Result A Refusal)
     (old new : Tokens) : Type 0 where
   pub front : Tokens
   pub passed : old ≡ front ++ new
-  pub only : Plain old → (n : ℕ) (other ts after : Tokens) → kind_at other ≡ kind_at new → P n (kind_at after) ts
-      → front ++ other ≡ ts ++ after → ends (kind_at after) ≡ true → Arrives left n result other after
+  pub only : Plain old → (n : ℕ) (other ts after : Tokens) → first_token_kind other ≡ first_token_kind new → P n (first_token_kind after) ts
+      → front ++ other ≡ ts ++ after → ends (first_token_kind after) ≡ true → Arrives left n result other after
 
 -- Some text of this form begins with these tokens, whatever follows it.
-pub record Begins (A : Form) (front : Tokens) : Type 0 where
+pub record BeginsForm (A : Form) (front : Tokens) : Type 0 where
   pub more : Tokens
   pub form : (next : TokenKind) → A next (front ++ more)
 
 -- What a refusal at `new` with room for `left` open productions tells of the tokens passed, with `more` of the next
 -- ones:
 -- that they begin a text with at most m open.
-pub data Tells (left : ℕ) (e : Refusal) (new : Tokens) (m : ℕ) (more : Tokens) : Type 0 where
-  before : m ≡ left → more ≡ [] → Tells left e new m more
+pub data TellsRefusal (left : ℕ) (e : Refusal) (new : Tokens) (m : ℕ) (more : Tokens) : Type 0 where
+  before : m ≡ left → more ≡ [] → TellsRefusal left e new m more
   through : (t : Lexeme) (rest : Tokens) → e ≡ Depth → new ≡ t ∷ rest → m ≡ left + 3 → more ≡ t ∷ []
-      → Tells left e new m more
+      → TellsRefusal left e new m more
 
 -- A refusal stands where the call stopped: what was passed begins a text of this form with no token that opens a
 -- production too deep, and at Depth some text of the form goes on with the next token.
-pub record Stands (P : ℕ → Form) (left : ℕ) (e : Refusal) (old new : Tokens) : Type 0 where
+pub record StandsWhereStopped (P : ℕ → Form) (left : ℕ) (e : Refusal) (old new : Tokens) : Type 0 where
   pub front : Tokens
   pub passed : old ≡ front ++ new
   pub opens : e ≡ Depth → new ≢ []
-  pub tells : (m : ℕ) (more : Tokens) → Tells left e new m more → Begins (P m) (front ++ more)
+  pub tells : (m : ℕ) (more : Tokens) → TellsRefusal left e new m more → BeginsForm (P m) (front ++ more)
 
 -- so it is with each refusal but for want of memory
 abbrev pub Refuses : (ℕ → Form) → ℕ → Refusal → Tokens → Tokens → Type 0
-Refuses P left e old new = e ≢ Memory → Stands P left e old new
+Refuses P left e old new = e ≢ Memory → StandsWhereStopped P left e old new
 
 abbrev pub Halts : {A : Type 0} → (ℕ → Form) → ℕ → Result A Refusal → Tokens → Tokens → Type 0
 Halts P left result old new = IfErr result (λ e. Refuses P left e old new)

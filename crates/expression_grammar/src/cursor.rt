@@ -5,7 +5,7 @@ ghost use Rattle.std.specs.Bool.{OnTrue, OnFalse};
 ghost use Rattle.ar_lexer.specs.declared.token.TokenKind.TheVariants.{Name, End};
 ghost use Rattle.expression_grammar.specs.declared.lexeme.Refusal.TheVariants.{Syntax, Depth};
 ghost use Rattle.expression_grammar.specs.Words.{token, end_of_tokens, StandsAt, IsSpanOf, place_at};
-ghost use Rattle.expression_grammar.specs.Results.{kind_at, Finds, Halts, Eats, anything};
+ghost use Rattle.expression_grammar.specs.Results.{first_token_kind, FindsRefusal, Halts, Eats, anything};
 
 use crate::lexeme::{Lexeme, Refusal};
 use ar_base::{Place, Span};
@@ -48,7 +48,7 @@ pub fn no_room(begins: bool) -> Refusal
 impl<'a> Parser<'a> {
     /// The kind of the next token, and `End` where none is left.
     pub fn kind(&self) -> TokenKind
-        ensures { result ≡ kind_at self.now.rest.now }
+        ensures { result ≡ first_token_kind self.now.rest.now }
     {
         match self.rest.first() {
             Some(next) => next.kind,
@@ -65,8 +65,8 @@ impl<'a> Parser<'a> {
 
     /// Whether the next token is of this kind.
     pub fn is_at(&self, kind: TokenKind) -> bool
-        ensures yes { OnTrue result (kind_at self.now.rest.now ≡ kind) }
-        ensures no { OnFalse result (kind_at self.now.rest.now ≢ kind) }
+        ensures yes { OnTrue result (first_token_kind self.now.rest.now ≡ kind) }
+        ensures no { OnFalse result (first_token_kind self.now.rest.now ≢ kind) }
     {
         self.kind() == kind
     }
@@ -76,7 +76,7 @@ impl<'a> Parser<'a> {
         requires { kind ≢ End }
         ensures taken { OnTrue result (Eats kind self.old.rest.now self.new.rest.now) }
         ensures left { OnFalse result (self.new.rest.now ≡ self.old.rest.now) }
-        ensures other { OnFalse result (kind_at self.old.rest.now ≢ kind) }
+        ensures other { OnFalse result (first_token_kind self.old.rest.now ≢ kind) }
         ensures end { self.new.end ≡ self.old.end }
     {
         if let Some((next, rest)) = self.rest.split_first() {
@@ -93,7 +93,7 @@ impl<'a> Parser<'a> {
         requires { kind ≢ End }
         ensures found { IfOk result (λ t. (self.old.rest.now ≡ t ∷ self.new.rest.now)
             × (t.kind ≡ kind)) }
-        ensures only { (left : ℕ) → Finds (λ _. token kind) anything left result self.old.rest.now
+        ensures only { (left : ℕ) → FindsRefusal (λ _. token kind) anything left result self.old.rest.now
             self.new.rest.now }
         ensures stuck { (left : ℕ) → Halts (λ _. token kind) left result self.old.rest.now
             self.new.rest.now }
@@ -115,7 +115,7 @@ impl<'a> Parser<'a> {
     pub fn name(&mut self) -> Result<Lexeme, Refusal>
         ensures found { IfOk result (λ t. (self.old.rest.now ≡ t ∷ self.new.rest.now)
             × (t.kind ≡ Name)) }
-        ensures only { (left : ℕ) → Finds (λ _. token Name) anything left result self.old.rest.now
+        ensures only { (left : ℕ) → FindsRefusal (λ _. token Name) anything left result self.old.rest.now
             self.new.rest.now }
         ensures stuck { (left : ℕ) → Halts (λ _. token Name) left result self.old.rest.now
             self.new.rest.now }

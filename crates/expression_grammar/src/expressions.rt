@@ -8,7 +8,7 @@ ghost use Rattle.expression_grammar.specs.Words.{token, deep, ◌▸◌, between
 ghost use Rattle.expression_grammar.specs.Expressions.{Node, ReadsExpr, ReadsNot, ReadsMinus, ReadsProduct, ReadsSum, ReadsTerm, ReadsCompare, ReadsPrimary, ReadsIf, ReadsSwitch, ReadsCase, ReadsOperands};
 ghost use Rattle.expression_grammar.specs.Chains.{separator_of, operand_form, chain_form, ends_operand, ends_chain};
 ghost use Rattle.expression_grammar.specs.Texts.{expr_tokens, not_tokens, minus_tokens, if_tokens, compare_tokens, sum_tokens, product_tokens, primary_tokens, operands_tokens, switch_tokens};
-ghost use Rattle.expression_grammar.specs.Results.{kind_at, Takes, Finds, Halts, Spans, anything, ends_path, ends_sum, ends_not, ends_expr, ends_list, ends_cases, begins_term};
+ghost use Rattle.expression_grammar.specs.Results.{first_token_kind, TakesTokens, FindsRefusal, Halts, Spans, anything, ends_path, ends_sum, ends_not, ends_expr, ends_list, ends_cases, begins_term};
 ghost use Rattle.expression_grammar.specs.Parts.{operand_tokens, chain_tokens, term_tokens, case_tokens};
 
 use crate::begins::{begins_expr, begins_minus, begins_not};
@@ -24,8 +24,8 @@ impl<'a> Parser<'a> {
     /// `Depth` at one that would open a production too many, and `Memory` tells that memory was refused.
     #[cycle(expression)]
     pub fn expr(&mut self, left: u32) -> Result<RawExpr, Refusal>
-        ensures found { Takes (Node (ReadsExpr left)) result self.old.rest.now self.new.rest.now }
-        ensures only { Finds (expr_tokens deep) ends_expr left result self.old.rest.now
+        ensures found { TakesTokens (Node (ReadsExpr left)) result self.old.rest.now self.new.rest.now }
+        ensures only { FindsRefusal (expr_tokens deep) ends_expr left result self.old.rest.now
             self.new.rest.now }
         ensures stuck { Halts (expr_tokens deep) left result self.old.rest.now self.new.rest.now }
         ensures end { self.new.end ≡ self.old.end }
@@ -50,9 +50,9 @@ impl<'a> Parser<'a> {
         requires opens { opens ≢ End }
         requires closes { closes ≢ End }
         requires ends { ends_expr closes ≡ true }
-        ensures found { Takes (λ e. between opens closes (Node (ReadsExpr left) e)) result
+        ensures found { TakesTokens (λ e. between opens closes (Node (ReadsExpr left) e)) result
             self.old.rest.now self.new.rest.now }
-        ensures only { Finds (λ n. between opens closes (expr_tokens deep n)) anything left result
+        ensures only { FindsRefusal (λ n. between opens closes (expr_tokens deep n)) anything left result
             self.old.rest.now self.new.rest.now }
         ensures stuck { Halts (λ n. between opens closes (expr_tokens deep n)) left result
             self.old.rest.now self.new.rest.now }
@@ -75,9 +75,9 @@ impl<'a> Parser<'a> {
         requires opens { opens ≢ End }
         requires closes { closes ≢ End }
         requires ends { ends_expr closes ≡ true }
-        ensures found { Takes (λ x. between opens closes (Node (ReadsExpr left) x.0)
+        ensures found { TakesTokens (λ x. between opens closes (Node (ReadsExpr left) x.0)
             ▸ Node (ReadsExpr left) x.1) result self.old.rest.now self.new.rest.now }
-        ensures only { Finds (λ n. between opens closes (expr_tokens deep n) ▸ expr_tokens deep n)
+        ensures only { FindsRefusal (λ n. between opens closes (expr_tokens deep n) ▸ expr_tokens deep n)
             ends_expr left result self.old.rest.now self.new.rest.now }
         ensures stuck { Halts (λ n. between opens closes (expr_tokens deep n) ▸ expr_tokens deep n) left
             result self.old.rest.now self.new.rest.now }
@@ -91,9 +91,9 @@ impl<'a> Parser<'a> {
     /// Takes a choice between two values: "if" Expr "then" Expr "else" Expr.
     #[cycle(expression)]
     fn choice(&mut self, left: u32) -> Result<RawExpr, Refusal>
-        ensures found { Takes (Node (ReadsIf (ReadsExpr left))) result self.old.rest.now
+        ensures found { TakesTokens (Node (ReadsIf (ReadsExpr left))) result self.old.rest.now
             self.new.rest.now }
-        ensures only { Finds (λ n. if_tokens (expr_tokens deep n)) ends_expr left result
+        ensures only { FindsRefusal (λ n. if_tokens (expr_tokens deep n)) ends_expr left result
             self.old.rest.now self.new.rest.now }
         ensures stuck { Halts (λ n. if_tokens (expr_tokens deep n)) left result self.old.rest.now
             self.new.rest.now }
@@ -115,9 +115,9 @@ impl<'a> Parser<'a> {
     /// Takes operands with one separator between them; one operand alone is itself.
     #[cycle(expression)]
     fn chain(&mut self, chain: Chain, left: u32) -> Result<RawExpr, Refusal>
-        ensures found { Takes (Node (chain_form chain left)) result self.old.rest.now
+        ensures found { TakesTokens (Node (chain_form chain left)) result self.old.rest.now
             self.new.rest.now }
-        ensures only { Finds (chain_tokens chain) (ends_chain chain) left result self.old.rest.now
+        ensures only { FindsRefusal (chain_tokens chain) (ends_chain chain) left result self.old.rest.now
             self.new.rest.now }
         ensures stuck { Halts (chain_tokens chain) left result self.old.rest.now self.new.rest.now }
         ensures end { self.new.end ≡ self.old.end }
@@ -144,8 +144,8 @@ impl<'a> Parser<'a> {
             × (operands.new.items ≡ operands.old.items ++ more)
             × Spans (each (λ e. token (separator_of chain) ▸ Node (operand_form chain left) e) more)
             self.old.rest.now self.new.rest.now) }
-        ensures over { IfOk result (λ _. kind_at self.new.rest.now ≢ separator_of chain) }
-        ensures only { Finds (λ n. many (token (separator_of chain) ▸ operand_tokens chain n))
+        ensures over { IfOk result (λ _. first_token_kind self.new.rest.now ≢ separator_of chain) }
+        ensures only { FindsRefusal (λ n. many (token (separator_of chain) ▸ operand_tokens chain n))
             (ends_chain chain) left result self.old.rest.now self.new.rest.now }
         ensures stuck { Halts (λ n. many (token (separator_of chain) ▸ operand_tokens chain n)) left
             result self.old.rest.now self.new.rest.now }
@@ -162,9 +162,9 @@ impl<'a> Parser<'a> {
     /// Takes one operand of a chain.
     #[cycle(expression)]
     fn operand(&mut self, chain: Chain, left: u32) -> Result<RawExpr, Refusal>
-        ensures found { Takes (Node (operand_form chain left)) result self.old.rest.now
+        ensures found { TakesTokens (Node (operand_form chain left)) result self.old.rest.now
             self.new.rest.now }
-        ensures only { Finds (operand_tokens chain) (ends_operand chain) left result self.old.rest.now
+        ensures only { FindsRefusal (operand_tokens chain) (ends_operand chain) left result self.old.rest.now
             self.new.rest.now }
         ensures stuck { Halts (operand_tokens chain) left result self.old.rest.now self.new.rest.now }
         ensures end { self.new.end ≡ self.old.end }
@@ -179,8 +179,8 @@ impl<'a> Parser<'a> {
     /// Takes "not" Not | Compare.
     #[cycle(expression)]
     fn not(&mut self, left: u32) -> Result<RawExpr, Refusal>
-        ensures found { Takes (Node (ReadsNot left)) result self.old.rest.now self.new.rest.now }
-        ensures only { Finds (not_tokens deep) ends_not left result self.old.rest.now
+        ensures found { TakesTokens (Node (ReadsNot left)) result self.old.rest.now self.new.rest.now }
+        ensures only { FindsRefusal (not_tokens deep) ends_not left result self.old.rest.now
             self.new.rest.now }
         ensures stuck { Halts (not_tokens deep) left result self.old.rest.now self.new.rest.now }
         ensures end { self.new.end ≡ self.old.end }
@@ -200,9 +200,9 @@ impl<'a> Parser<'a> {
     /// Takes Sum [ relation Sum ].
     #[cycle(expression)]
     fn compare(&mut self, left: u32) -> Result<RawExpr, Refusal>
-        ensures found { Takes (Node (ReadsCompare (ReadsSum (ReadsProduct (ReadsMinus left))))) result
+        ensures found { TakesTokens (Node (ReadsCompare (ReadsSum (ReadsProduct (ReadsMinus left))))) result
             self.old.rest.now self.new.rest.now }
-        ensures only { Finds (λ n. compare_tokens (sum_tokens (product_tokens (minus_tokens deep n))))
+        ensures only { FindsRefusal (λ n. compare_tokens (sum_tokens (product_tokens (minus_tokens deep n))))
             ends_not left result self.old.rest.now self.new.rest.now }
         ensures stuck { Halts (λ n. compare_tokens (sum_tokens (product_tokens (minus_tokens deep n)))) left
             result self.old.rest.now self.new.rest.now }
@@ -223,9 +223,9 @@ impl<'a> Parser<'a> {
     /// Takes Product { ( "+" | "-" ) Product }.
     #[cycle(expression)]
     fn sum(&mut self, left: u32) -> Result<RawExpr, Refusal>
-        ensures found { Takes (Node (ReadsSum (ReadsProduct (ReadsMinus left)))) result self.old.rest.now
+        ensures found { TakesTokens (Node (ReadsSum (ReadsProduct (ReadsMinus left)))) result self.old.rest.now
             self.new.rest.now }
-        ensures only { Finds (λ n. sum_tokens (product_tokens (minus_tokens deep n))) ends_sum left result
+        ensures only { FindsRefusal (λ n. sum_tokens (product_tokens (minus_tokens deep n))) ends_sum left result
             self.old.rest.now self.new.rest.now }
         ensures stuck { Halts (λ n. sum_tokens (product_tokens (minus_tokens deep n))) left result
             self.old.rest.now self.new.rest.now }
@@ -247,8 +247,8 @@ impl<'a> Parser<'a> {
         ensures found { IfOk result (λ _. (more : _) × (terms.new.items ≡ terms.old.items ++ more)
             × Spans (each (ReadsTerm (ReadsProduct (ReadsMinus left))) more) self.old.rest.now
             self.new.rest.now) }
-        ensures over { IfOk result (λ _. begins_term (kind_at self.new.rest.now) ≡ false) }
-        ensures only { Finds (λ n. many (term_tokens n)) ends_sum left result self.old.rest.now
+        ensures over { IfOk result (λ _. begins_term (first_token_kind self.new.rest.now) ≡ false) }
+        ensures only { FindsRefusal (λ n. many (term_tokens n)) ends_sum left result self.old.rest.now
             self.new.rest.now }
         ensures stuck { Halts (λ n. many (term_tokens n)) left result self.old.rest.now
             self.new.rest.now }
@@ -264,8 +264,8 @@ impl<'a> Parser<'a> {
     /// Takes "-" Minus | Primary.
     #[cycle(expression)]
     fn minus(&mut self, left: u32) -> Result<RawExpr, Refusal>
-        ensures found { Takes (Node (ReadsMinus left)) result self.old.rest.now self.new.rest.now }
-        ensures only { Finds (minus_tokens deep) ends_path left result self.old.rest.now
+        ensures found { TakesTokens (Node (ReadsMinus left)) result self.old.rest.now self.new.rest.now }
+        ensures only { FindsRefusal (minus_tokens deep) ends_path left result self.old.rest.now
             self.new.rest.now }
         ensures stuck { Halts (minus_tokens deep) left result self.old.rest.now self.new.rest.now }
         ensures end { self.new.end ≡ self.old.end }
@@ -285,9 +285,9 @@ impl<'a> Parser<'a> {
     /// Takes a constant, a path, a call, a choice or an expression in brackets.
     #[cycle(expression)]
     fn primary(&mut self, left: u32) -> Result<RawExpr, Refusal>
-        ensures found { Takes (Node (ReadsPrimary (ReadsExpr left))) result self.old.rest.now
+        ensures found { TakesTokens (Node (ReadsPrimary (ReadsExpr left))) result self.old.rest.now
             self.new.rest.now }
-        ensures only { Finds (λ n. primary_tokens (expr_tokens deep n)) ends_path left result
+        ensures only { FindsRefusal (λ n. primary_tokens (expr_tokens deep n)) ends_path left result
             self.old.rest.now self.new.rest.now }
         ensures stuck { Halts (λ n. primary_tokens (expr_tokens deep n)) left result self.old.rest.now
             self.new.rest.now }
@@ -321,9 +321,9 @@ impl<'a> Parser<'a> {
     /// Takes "(" Expr { "," Expr } ")".
     #[cycle(expression)]
     fn operands(&mut self, left: u32) -> Result<Vec<RawExpr>, Refusal>
-        ensures found { Takes (λ operands. ReadsOperands (ReadsExpr left) operands.items) result
+        ensures found { TakesTokens (λ operands. ReadsOperands (ReadsExpr left) operands.items) result
             self.old.rest.now self.new.rest.now }
-        ensures only { Finds (λ n. operands_tokens (expr_tokens deep n)) anything left result
+        ensures only { FindsRefusal (λ n. operands_tokens (expr_tokens deep n)) anything left result
             self.old.rest.now self.new.rest.now }
         ensures stuck { Halts (λ n. operands_tokens (expr_tokens deep n)) left result self.old.rest.now
             self.new.rest.now }
@@ -344,7 +344,7 @@ impl<'a> Parser<'a> {
             × (operands.new.items ≡ operands.old.items ++ more)
             × Spans (each (λ e. token (Sign COMMA) ▸ Node (ReadsExpr left) e) more) self.old.rest.now
             self.new.rest.now) }
-        ensures only { Finds (λ n. many (token (Sign COMMA) ▸ expr_tokens deep n)) ends_list left
+        ensures only { FindsRefusal (λ n. many (token (Sign COMMA) ▸ expr_tokens deep n)) ends_list left
             result self.old.rest.now self.new.rest.now }
         ensures stuck { Halts (λ n. many (token (Sign COMMA) ▸ expr_tokens deep n)) left result
             self.old.rest.now self.new.rest.now }
@@ -360,9 +360,9 @@ impl<'a> Parser<'a> {
     /// Takes "switch" "{" Case { Case } "default" ":" Expr "}".
     #[cycle(expression)]
     fn switch(&mut self, left: u32) -> Result<RawExpr, Refusal>
-        ensures found { Takes (Node (ReadsSwitch (ReadsExpr left))) result self.old.rest.now
+        ensures found { TakesTokens (Node (ReadsSwitch (ReadsExpr left))) result self.old.rest.now
             self.new.rest.now }
-        ensures only { Finds (λ n. switch_tokens (expr_tokens deep n)) anything left result
+        ensures only { FindsRefusal (λ n. switch_tokens (expr_tokens deep n)) anything left result
             self.old.rest.now self.new.rest.now }
         ensures stuck { Halts (λ n. switch_tokens (expr_tokens deep n)) left result self.old.rest.now
             self.new.rest.now }
@@ -388,10 +388,10 @@ impl<'a> Parser<'a> {
     /// Takes { "case" Expr ":" Expr }.
     #[cycle(expression)]
     fn cases(&mut self, left: u32) -> Result<Vec<(RawExpr, RawExpr)>, Refusal>
-        ensures found { Takes (λ cases. each (ReadsCase (ReadsExpr left)) cases.items) result
+        ensures found { TakesTokens (λ cases. each (ReadsCase (ReadsExpr left)) cases.items) result
             self.old.rest.now self.new.rest.now }
-        ensures over { IfOk result (λ _. kind_at self.new.rest.now ≢ Reserved CASE) }
-        ensures only { Finds (λ n. many (case_tokens n)) ends_cases left result self.old.rest.now
+        ensures over { IfOk result (λ _. first_token_kind self.new.rest.now ≢ Reserved CASE) }
+        ensures only { FindsRefusal (λ n. many (case_tokens n)) ends_cases left result self.old.rest.now
             self.new.rest.now }
         ensures stuck { Halts (λ n. case_tokens n ▸ many (case_tokens n)) left result self.old.rest.now
             self.new.rest.now }

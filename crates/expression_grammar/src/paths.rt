@@ -6,7 +6,7 @@ ghost use Rattle.ar_lexer.specs.declared.signs.TheConstants.{DOT};
 ghost use Rattle.expression_grammar.specs.Words.{token, ◌▸◌, each, many, ReadsSome};
 ghost use Rattle.expression_grammar.specs.Paths.{ReadsName, ReadsStart, ReadsPath};
 ghost use Rattle.expression_grammar.specs.Texts.{path_tokens};
-ghost use Rattle.expression_grammar.specs.Results.{Takes, Finds, Halts, Spans, ends_path, is_name};
+ghost use Rattle.expression_grammar.specs.Results.{TakesTokens, FindsRefusal, Halts, Spans, ends_path, is_name};
 
 use crate::cursor::Parser;
 use crate::lexeme::Refusal;
@@ -18,8 +18,8 @@ use ar_syntax::{Path, PathStart};
 impl<'a> Parser<'a> {
     /// Takes the start of a path: [ ( "owner" | "main" ) "." ].
     fn path_start(&mut self) -> Result<PathStart, Refusal>
-        ensures found { Takes ReadsStart result self.old.rest.now self.new.rest.now }
-        ensures only { (left : ℕ) → Finds (λ _. ReadsSome ReadsStart) is_name left result self.old.rest.now
+        ensures found { TakesTokens ReadsStart result self.old.rest.now self.new.rest.now }
+        ensures only { (left : ℕ) → FindsRefusal (λ _. ReadsSome ReadsStart) is_name left result self.old.rest.now
             self.new.rest.now }
         ensures stuck { (left : ℕ) → Halts (λ _. ReadsSome ReadsStart) left result self.old.rest.now
             self.new.rest.now }
@@ -41,7 +41,7 @@ impl<'a> Parser<'a> {
         ensures found { IfOk result (λ _. (more : _) × (names.new.items ≡ names.old.items ++ more)
             × Spans (each (λ x. token (Sign DOT) ▸ ReadsName x) more) self.old.rest.now
             self.new.rest.now) }
-        ensures only { (left : ℕ) → Finds (λ _. many (token (Sign DOT) ▸ token Name)) ends_path left
+        ensures only { (left : ℕ) → FindsRefusal (λ _. many (token (Sign DOT) ▸ token Name)) ends_path left
             result self.old.rest.now self.new.rest.now }
         ensures stuck { (left : ℕ) → Halts (λ _. many (token (Sign DOT) ▸ token Name)) left result
             self.old.rest.now self.new.rest.now }
@@ -57,8 +57,8 @@ impl<'a> Parser<'a> {
     /// Takes a path: [ ( "owner" | "main" ) "." ] name { "." name }. `Syntax` stops at the first token that goes on with
     /// none, and `Memory` tells that memory was refused.
     pub fn path(&mut self) -> Result<Path, Refusal>
-        ensures found { Takes ReadsPath result self.old.rest.now self.new.rest.now }
-        ensures only { (left : ℕ) → Finds (λ _. path_tokens) ends_path left result self.old.rest.now
+        ensures found { TakesTokens ReadsPath result self.old.rest.now self.new.rest.now }
+        ensures only { (left : ℕ) → FindsRefusal (λ _. path_tokens) ends_path left result self.old.rest.now
             self.new.rest.now }
         ensures stuck { (left : ℕ) → Halts (λ _. path_tokens) left result self.old.rest.now
             self.new.rest.now }

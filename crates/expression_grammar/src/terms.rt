@@ -4,8 +4,8 @@ ghost use Rattle.std.specs.Prelude.{◌≡◌, ◌≢◌, Option, IfOk, IfErr, I
 ghost use Rattle.ar_lexer.specs.declared.token.TokenKind.TheVariants.{Sign, End};
 ghost use Rattle.ar_lexer.specs.declared.signs.TheConstants.{PLUS, MINUS};
 ghost use Rattle.expression_grammar.specs.Expressions.{sign_of};
-ghost use Rattle.expression_grammar.specs.Chains.{separator_of, chain_of, IsConstant, word_of, call_of, IsComparison};
-ghost use Rattle.expression_grammar.specs.Results.{kind_at, Eats, is_relation, begins_term};
+ghost use Rattle.expression_grammar.specs.Chains.{separator_of, chain_of, IsConstant, opening_word, call_of, IsComparison};
+ghost use Rattle.expression_grammar.specs.Results.{first_token_kind, Eats, is_relation, begins_term};
 ghost use Rattle.expression_grammar.specs.declared.lexeme.Refusal.TheVariants.{Memory};
 ghost use Rattle.expression_grammar.specs.Texts.{begins_constant, begins_call};
 
@@ -123,7 +123,7 @@ pub(crate) fn constant_of(kind: TokenKind) -> Option<RawForm>
 
 /// The call that a token begins.
 pub(crate) fn call_at(kind: TokenKind) -> Option<Call>
-    ensures found { IfSome result (λ c. kind ≡ word_of c) }
+    ensures found { IfSome result (λ c. kind ≡ opening_word c) }
     ensures none { IfNone result (begins_call kind ≡ false) }
 {
     let TokenKind::Reserved(word) = kind else {
@@ -144,8 +144,8 @@ pub(crate) fn call_at(kind: TokenKind) -> Option<Call>
 impl<'a> Parser<'a> {
     /// Takes the next token.
     pub fn skip(&mut self)
-        requires { kind_at self.old.rest.now ≢ End }
-        ensures taken { Eats (kind_at self.old.rest.now) self.old.rest.now self.new.rest.now }
+        requires { first_token_kind self.old.rest.now ≢ End }
+        ensures taken { Eats (first_token_kind self.old.rest.now) self.old.rest.now self.new.rest.now }
         ensures end { self.new.end ≡ self.old.end }
     {
         if let Some((_, rest)) = self.rest.split_first() {
@@ -158,7 +158,7 @@ impl<'a> Parser<'a> {
         ensures taken { IfSome result (λ r.
             Eats (Sign (sign_of r)) self.old.rest.now self.new.rest.now) }
         ensures left { IfNone result (self.new.rest.now ≡ self.old.rest.now) }
-        ensures other { IfNone result (is_relation (kind_at self.old.rest.now) ≡ false) }
+        ensures other { IfNone result (is_relation (first_token_kind self.old.rest.now) ≡ false) }
         ensures end { self.new.end ≡ self.old.end }
     {
         let relation = relation_of(self.kind())?;
@@ -172,7 +172,7 @@ impl<'a> Parser<'a> {
         ensures minus { result ≡ Some false
             → Eats (Sign MINUS) self.old.rest.now self.new.rest.now }
         ensures left { IfNone result (self.new.rest.now ≡ self.old.rest.now) }
-        ensures other { IfNone result (begins_term (kind_at self.old.rest.now) ≡ false) }
+        ensures other { IfNone result (begins_term (first_token_kind self.old.rest.now) ≡ false) }
         ensures end { self.new.end ≡ self.old.end }
     {
         if self.eat(TokenKind::Sign(signs::PLUS)) {
@@ -186,7 +186,7 @@ impl<'a> Parser<'a> {
 
     /// Whether the next token is `+` or `-`.
     pub(crate) fn is_at_term(&self) -> bool
-        ensures { result ≡ begins_term (kind_at self.now.rest.now) }
+        ensures { result ≡ begins_term (first_token_kind self.now.rest.now) }
     {
         self.is_at(TokenKind::Sign(signs::PLUS)) || self.is_at(TokenKind::Sign(signs::MINUS))
     }

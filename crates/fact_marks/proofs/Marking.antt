@@ -10,7 +10,7 @@ use Rattle.gts_core.specs.declared.system.Assign.{Assign}
 use Rattle.gts_core.specs.declared.system.GtsParts.{GtsParts}
 use Rattle.fact_marks.specs.declared.Mark.{Mark}
 use Rattle.fact_marks.specs.declared.Mark.TheVariants.{Added}
-use Rattle.fact_marks.specs.Marks.{is_fact, is_fact_found, IsOpen, IsTo, IsMarkedBy, MarksAll}
+use Rattle.fact_marks.specs.Marks.{is_fact, is_fact_found, HasNoFact, IsTo, IsMarkedBy, MarksAll}
 use Rattle.fact_marks.proofs.Placing.{set_other, set_back, pushed_cases, pushed_old, pushed_last, before_next}
 
 -- the target of an assertion is a variable of the system
@@ -22,15 +22,15 @@ target_below p sound n a st =
 
 -- the mark that was tested
 module _ (marks : List Mark) where
-  pub open_from : (n : ℕ) → n < length marks → is_fact_found (slice_get marks n) ≡ false → IsOpen marks n
+  pub open_from : (n : ℕ) → n < length marks → is_fact_found (slice_get marks n) ≡ false → HasNoFact marks n
   open_from n l e =
       let m = stands_some marks n l in
       record { mark = m.0; stands = m.1; is = sym (ap is_fact_found m.1) ∙ e }
 
-  pub not_open : (n : ℕ) → is_fact_found (slice_get marks n) ≡ true → IsOpen marks n → ⊥
+  pub not_open : (n : ℕ) → is_fact_found (slice_get marks n) ≡ true → HasNoFact marks n → ⊥
   not_open n e o = let i : is_fact o.mark ≡ true = sym (ap is_fact_found o.stands) ∙ e in absurd (cc (i, o.is))
 
-pub open_not : {marks : List Mark} {n : ℕ} {m : Mark} → IsOpen marks n → Stands marks n m → is_fact m ≡ true → ⊥
+pub open_not : {marks : List Mark} {n : ℕ} {m : Mark} → HasNoFact marks n → Stands marks n m → is_fact m ≡ true → ⊥
 open_not {marks = marks} {n = n} {m = m} o s i =
     let e = stands_one marks n o.mark m o.stands s in
     let j : is_fact m ≡ false = subst (λ (z : Mark). is_fact z ≡ false) e o.is in absurd (cc (i, j))
@@ -69,19 +69,19 @@ module _ (p : GtsParts) (round : ℕ) (old : List Mark) where
     }
 
     -- the target has its fact
-    pub marks_left : (IsOpen marks a.target.n → ⊥) → MarksAll p (take (i + 1) xs) round old marks fresh
+    pub marks_left : (HasNoFact marks a.target.n → ⊥) → MarksAll p (take (i + 1) xs) round old marks fresh
     marks_left known = subst (λ (z : List ℕ). MarksAll p z round old marks fresh) (sym more) (record {
       long = d.long;
       kept = d.kept;
       only = λ n m s. elim (d.only n m s) [ inl q ↦ inl q | inr q ↦ inr (q.0, (q.1.0, marked_more n m q.1.1)) ];
       all = λ k n o t u. elim (pushed_cases (take i xs) (get_or xs i 0) k o) [
         | inl q ↦ d.all k n q t u
-        | inr e ↦ (let f = is_target n (subst (λ z. IsTo p z n) (sym e) t) in known (subst (λ z. IsOpen marks z) f u))
+        | inr e ↦ (let f = is_target n (subst (λ z. IsTo p z n) (sym e) t) in known (subst (λ z. HasNoFact marks z) f u))
       ];
     })
 
     -- the target is marked
-    module _ (by : AssignId) (is_by : by.n ≡ get_or xs i 0) (o : IsOpen marks a.target.n)
+    module _ (by : AssignId) (is_by : by.n ≡ get_or xs i 0) (o : HasNoFact marks a.target.n)
         (inside : a.target.n < length marks) where
       t : ℕ
       t = a.target.n
@@ -92,7 +92,7 @@ module _ (p : GtsParts) (round : ℕ) (old : List Mark) where
       abbrev new : List Mark
       new = set marks a.target.n m
 
-      was_open : IsOpen old a.target.n
+      was_open : HasNoFact old a.target.n
       was_open = elim (d.only a.target.n o.mark o.stands) [
         | inl s ↦ record { mark = o.mark; stands = s; is = o.is }
         | inr q ↦ q.0
@@ -115,11 +115,11 @@ module _ (p : GtsParts) (round : ℕ) (old : List Mark) where
       }
 
       new_only : (n : ℕ) (x : Mark) → Stands new n x
-          → Stands old n x ⊎ (IsOpen old n
+          → Stands old n x ⊎ (HasNoFact old n
           × (IsOneOf (fresh ++ a.target.n ∷ []) n × IsMarkedBy p (take i xs ++ get_or xs i 0 ∷ []) round n x))
       new_only n x s = elim (set_back marks a.target.n n m x s) [
         | inl e ↦ (let P : ℕ → Mark → Type 0 =
-            λ k z. Stands old k z ⊎ (IsOpen old k
+            λ k z. Stands old k z ⊎ (HasNoFact old k
             × (IsOneOf (fresh ++ a.target.n ∷ []) k × IsMarkedBy p (take i xs ++ get_or xs i 0 ∷ []) round k z)) in
             let here : P a.target.n m = inr (was_open, (pushed_last fresh a.target.n, marked_now)) in
             subst (λ k. P k x) (sym e.0) (subst (λ (z : Mark). P a.target.n z) e.1 here))
@@ -129,7 +129,7 @@ module _ (p : GtsParts) (round : ℕ) (old : List Mark) where
         ])
       ]
 
-      still_open : (n : ℕ) → IsOpen new n → (n ≡ a.target.n → ⊥) × IsOpen marks n
+      still_open : (n : ℕ) → HasNoFact new n → (n ≡ a.target.n → ⊥) × HasNoFact marks n
       still_open n u = elim (set_back marks a.target.n n m u.mark u.stands) [
         | inl e ↦ (let j : is_fact m ≡ false = subst (λ (z : Mark). is_fact z ≡ false) (sym e.1) u.is in absurd (cc j))
         | inr q ↦ (q.0, record { mark = u.mark; stands = q.1; is = u.is })

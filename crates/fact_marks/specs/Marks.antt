@@ -19,7 +19,7 @@ is_fact_found None = false
 is_fact_found (Some m) = is_fact m
 
 -- the variable of this number has no fact yet
-pub record IsOpen (marks : List Mark) (n : ℕ) : Type 0 where
+pub record HasNoFact (marks : List Mark) (n : ℕ) : Type 0 where
   pub mark : Mark
   pub stands : Stands marks n mark
   pub is : is_fact mark ≡ false
@@ -43,5 +43,5 @@ pub record MarksAll (p : GtsParts) (bringing : List ℕ) (round : ℕ) (old new 
   pub long : length new ≡ length old
   pub kept : (n : ℕ) (m : Mark) → Stands old n m → is_fact m ≡ true → Stands new n m
   pub only : (n : ℕ) (m : Mark) → Stands new n m
-      → Stands old n m ⊎ (IsOpen old n × (IsOneOf fresh n × IsMarkedBy p bringing round n m))
-  pub all : (k n : ℕ) → IsOneOf bringing k → IsTo p k n → IsOpen new n → ⊥
+      → Stands old n m ⊎ (HasNoFact old n × (IsOneOf fresh n × IsMarkedBy p bringing round n m))
+  pub all : (k n : ℕ) → IsOneOf bringing k → IsTo p k n → HasNoFact new n → ⊥

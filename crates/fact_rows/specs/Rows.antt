@@ -3,13 +3,13 @@ use Rattle.std.specs.Prelude.{◌≡◌, ◌<◌, if◌then◌else◌, ℕ, Bool
 use Rattle.ar_base.specs.Lists.{Stands}
 use Rattle.domains.specs.declared.Value.{Value}
 use Rattle.gts_core.specs.declared.system.Variable.{Variable}
-use Rattle.typed_expr.specs.Rows.{Rows, row_at}
+use Rattle.typed_expr.specs.Rows.{Rows, known_row_at}
 
 -- the first rows of a table: the value of each state variable, and nothing for a flow
 pub record Starts (variables : List Variable) (values : List Value) (count : ℕ) (rows : Rows) : Type 0 where
   pub long : length rows ≡ count
   pub row : (n : ℕ) (x : Variable) (v : Value) → n < count → Stands variables n x → Stands values n v
-      → row_at rows n ≡ (if x.is_state then v ∷ [] else [])
+      → known_row_at rows n ≡ (if x.is_state then v ∷ [] else [])
 
 -- two different values in a list
 pub record AreTwo (values : List Value) : Type 0 where

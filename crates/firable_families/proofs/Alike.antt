@@ -6,11 +6,11 @@ use Rattle.ar_base.proofs.Standing.{one_here, along_on, along_back}
 use Rattle.domains.specs.declared.Value.{Value}
 use Rattle.ar_meaning.specs.Runs.{Label}
 use Rattle.ar_firing.specs.Forest.{Row, ModeTree}
-use Rattle.ar_firing.specs.Trees.{IsTree, AreTrees, AreApart}
+use Rattle.ar_firing.specs.Trees.{IsTree, AreTrees, HaveOwnEvents}
 use Rattle.mode_trees.specs.declared.forests.Edge.{Edge}
 use Rattle.mode_trees.specs.declared.forests.ModeTree as flat
 use Rattle.mode_trees.specs.declared.forests.Forest.{Forest}
-use Rattle.mode_trees.specs.Views.{row_of, tree_of, trees_of}
+use Rattle.mode_trees.specs.Views.{edge_row, tree_of, trees_of}
 use Rattle.firable_families.specs.FirableInside.{LeadsToMode, root, edge, IsFirableOf}
 use Rattle.firable_families.proofs.Trees.{fore}
 
@@ -100,7 +100,7 @@ tree_alike s t h i = record {
     back k r x = along_back s.edges t.edges h.edges k r x
 
 -- where they are alike, an edge of a tree has one of the other tree beside it
-apart_alike : (ss ts : List ModeTree) → Along AreAlike ss ts → AreApart ss → AreApart ts
+apart_alike : (ss ts : List ModeTree) → Along AreAlike ss ts → HaveOwnEvents ss → HaveOwnEvents ts
 apart_alike ss ts h p = record {
   one = λ j k s t a b c d l m x y u v e.
       let q = along_back ss ts h j s x in
@@ -119,7 +119,7 @@ trees_alike ss ts h i = record {
 
 -- one forest, with its ways numbered in two ways
 module _ (number other : ℕ → ℕ) where
-  rows_seen : (es : List Edge) → Along AreAlikeRows (map (row_of number) es) (map (row_of other) es)
+  rows_seen : (es : List Edge) → Along AreAlikeRows (map (edge_row number) es) (map (edge_row other) es)
   rows_seen [] = none
   rows_seen (e ∷ es) = one_and (record { from = refl; event = refl; to = refl }) (rows_seen es)
 

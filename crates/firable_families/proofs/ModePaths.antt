@@ -11,7 +11,7 @@ use Rattle.ar_firing.specs.Forest.{Row, ModeTree}
 use Rattle.zdd_families.specs.Families.{Family}
 use Rattle.zdd_families.specs.FamiliesInside.{IsFamily}
 use Rattle.firable_families.specs.FirableInside.{LeadsToMode, root, edge, HaveEvents, IsPathSet}
-use Rattle.firable_families.specs.Entries.{AreEntries, HasEntries}
+use Rattle.firable_families.specs.Entries.{AreTreeEntries, HasEntries}
 use Rattle.firable_families.proofs.Listing.{lists_listed}
 
 module _ (tree : ModeTree) (t : IsTree tree) where
@@ -34,7 +34,7 @@ module _ (tree : ModeTree) (t : IsTree tree) where
   }
 
   -- each path's set is that of an entry
-  pub entry_of : (entries : List (Value × List ℕ)) → AreEntries tree entries → (s : List ℕ) → IsPathSet tree s
+  pub entry_of : (entries : List (Value × List ℕ)) → AreTreeEntries tree entries → (s : List ℕ) → IsPathSet tree s
       → (m : Value) × (set : List ℕ) × IsOneOf entries (m, set) × Within s set × Within set s
   entry_of entries a s p = at p.leads p.events
     where
@@ -52,7 +52,7 @@ module _ (tree : ModeTree) (t : IsTree tree) where
       at (edge {l = l} {m = m} {to = to} p r) h = let x = a.entered (record { from = m; label = l; to = to }) r in found (edge p r) h x.0 x.1
 
   -- the family of the entries' sets lists the paths
-  pub entries_listed : (entries : List (Value × List ℕ)) → AreEntries tree entries → (f : Family) → IsFamily f
+  pub entries_listed : (entries : List (Value × List ℕ)) → AreTreeEntries tree entries → (f : Family) → IsFamily f
       → HasEntries entries f → AreListed (IsPathSet tree) f
   entries_listed entries a f k has_them = lists_listed (record {
     is_family = k;

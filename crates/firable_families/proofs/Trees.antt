@@ -9,7 +9,7 @@ use Rattle.domains.specs.declared.Value.{Value}
 use Rattle.ar_meaning.specs.Runs.{Label}
 use Rattle.ar_firing.specs.Forest.{ModeTree}
 use Rattle.ar_base.specs.Sets.{Within}
-use Rattle.ar_firing.specs.Trees.{AreApart}
+use Rattle.ar_firing.specs.Trees.{HaveOwnEvents}
 use Rattle.ar_firing.specs.Listed.{AreListed}
 use Rattle.zdd_families.specs.Families.{Family, holds, has}
 use Rattle.zdd_families.proofs.Ascending.{IsAscending}
@@ -220,7 +220,7 @@ module _ (trees : List ModeTree) (fs : List Family) (families : AreTreeFamilies 
             );
       }
 
-  pub apart_parted : AreApart trees → AreParted fs
+  pub apart_parted : HaveOwnEvents trees → AreParted fs
   apart_parted a = record {
     one = λ m n e f g i j x y.
         let p = at e m f i x in
@@ -245,7 +245,7 @@ module _ (trees : List ModeTree) (fs : List Family) (families : AreTreeFamilies 
   all_members Q (x ∷ t) h = (h x (holds_here x t), all_members Q t (λ e k. h e (holds_more e x t k)))
 
   -- the walk through the events below n lists the firable sets
-  pub walk_lists : (n : ℕ) → AreApart trees → AreEventsBelow n fs → AreListed (IsFirableOf trees) (left n 0 fs)
+  pub walk_lists : (n : ℕ) → HaveOwnEvents trees → AreEventsBelow n fs → AreListed (IsFirableOf trees) (left n 0 fs)
   walk_lists n a b = lists_listed (record {
     is_family = left_family n 0 fs;
     sound = λ s h. merged_firable s (left_sound n 0 fs s h);

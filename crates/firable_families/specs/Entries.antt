@@ -15,7 +15,7 @@ pub record IsEntry (tree : ModeTree) (mode : Value) (set : List ℕ) : Type 0 wh
   pub events : HaveEvents labels set
 
 -- the modes and sets are those of the tree's first mode and of each mode that an edge enters
-pub record AreEntries (tree : ModeTree) (entries : List (Value × List ℕ)) : Type 0 where
+pub record AreTreeEntries (tree : ModeTree) (entries : List (Value × List ℕ)) : Type 0 where
   pub sound : (k : ℕ) (m : Value) (set : List ℕ) → Stands entries k (m, set) → IsEntry tree m set
   pub first : (set : List ℕ) × IsOneOf entries (tree.first, set)
   pub entered : (r : Row) → IsOneOf tree.edges r → (set : List ℕ) × IsOneOf entries (r.to, set)

@@ -1,4 +1,4 @@
--- Paths in trees, and the sets of events that are firable in all of them.
+-- Of the sets with a property those of at most so many events.
 use Rattle.std.specs.Prelude.{ℕ, List, Option, Some, None}
 use Rattle.ar_firing.specs.Cuts.{HasAtMost}
 

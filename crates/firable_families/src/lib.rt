@@ -13,14 +13,14 @@ ghost use Rattle.ar_firing.specs.Cuts.{IsFirable, IsLeast};
 ghost use Rattle.ar_firing.specs.Operands.{IsFirableWith};
 ghost use Rattle.ar_firing.specs.Listed.{AreListed};
 ghost use Rattle.ar_firing.specs.Forest.{ModeTree, IsForest};
-ghost use Rattle.ar_firing.specs.Trees.{IsTree, AreApart, AreTrees};
+ghost use Rattle.ar_firing.specs.Trees.{IsTree, HaveOwnEvents, AreTrees};
 ghost use Rattle.mode_trees.specs.declared.forests.Forest.{Forest};
 ghost use Rattle.mode_trees.specs.Views.{trees_of};
 ghost use Rattle.zdd_families.specs.Families.{Family, minimal};
 ghost use Rattle.zdd_families.specs.FamiliesInside.{IsFamily};
 ghost use Rattle.zdd_families.specs.Sections.{section};
 ghost use Rattle.firable_families.specs.FirableInside.{IsPathSet, IsFirableOf, IsFirableUpTo, IsOfMembers, ListsLeast, ListsLeastUpTo};
-ghost use Rattle.firable_families.specs.Entries.{AreEntries, HasEntries};
+ghost use Rattle.firable_families.specs.Entries.{AreTreeEntries, HasEntries};
 ghost use Rattle.firable_families.specs.Walk.{left, after, could, few_of, AreTreeFamilies, AreEventsBelow};
 
 /// Laws of the families of firable sets.
@@ -38,13 +38,13 @@ ghost use Rattle.firable_families.specs.Walk.{left, after, could, few_of, AreTre
 ///   firable in its trees, nor in that they are trees.
 pub fn firable_laws<V>()
     ensures lists_of_walk { (trees : List ModeTree) (fs : List Family) → AreTreeFamilies trees fs → (n : ℕ)
-        → AreApart trees
+        → HaveOwnEvents trees
         → AreEventsBelow n fs → AreListed (IsFirableOf trees) (left n 0 fs) }
     ensures sections_of_walk { (m k : ℕ) (p : List ℕ) (fs : List Family) → Ascends p
         → AllByRecursion (λ x. x < m) p
         → section m p (left (m + k) 0 fs) ≡ cond (could m 0 p fs) (left k m (after m 0 p fs)) [] }
     ensures tree_families { (tree : ModeTree) → IsTree tree → (entries : List (Value × List ℕ))
-        → AreEntries tree entries
+        → AreTreeEntries tree entries
         → (f : Family) → IsFamily f → HasEntries entries f → AreListed (IsPathSet tree) f }
     ensures small_sets { (order : Option ℕ) (trees : List ModeTree) (all : Family)
         → AreListed (IsFirableOf trees) all → AreListed (IsFirableUpTo order trees) (few_of order all) }

@@ -5,10 +5,10 @@ use Rattle.std.proofs.lemmas.Bool.{cases_eq}
 use Rattle.ar_base.specs.Lists.{Stands, IsOneOf}
 use Rattle.ar_base.proofs.Standing.{stands_none, stands_within, stands_some, stands_one}
 use Rattle.flow_blocks.specs.Blocks.{IsGiven, Depends, directly, Together, same, each_other}
-use Rattle.flow_blocks.specs.BlocksInside.{AreBelow}
+use Rattle.flow_blocks.specs.BlocksInside.{AreUsesBelow}
 use Rattle.flow_blocks.specs.Bits.{HasBit, row_of, AreAllDependences}
 use Rattle.flow_blocks.specs.Table.{IsClassTable}
-use Rattle.flow_blocks.specs.Waits.{Crosses, IsReady, WasGiven, IsWaiting, AreGivenTogether, left_to_give}
+use Rattle.flow_blocks.specs.Waits.{Crosses, IsClassReady, WasGiven, IsWaiting, AreGivenTogether, left_to_give}
 use Rattle.flow_blocks.specs.declared.giving.Waiting.{Waiting}
 use Rattle.flow_blocks.proofs.ClassLemmas.{depends_on}
 use Rattle.flow_blocks.proofs.OrderLemmas.{some_class, below_count, same_class, one_class}
@@ -75,9 +75,9 @@ does_reach rows x n e = by (nat_eq (bit_at (slice_index (row_of rows x) (n / 64)
     by false is h = inr (eqb-true n x h)
 
 module _ (count : ℕ) (uses : List (ℕ × ℕ)) (classes : List (List ℕ)) (class_of : List ℕ)
-    (table : IsClassTable count uses classes class_of) (low : AreBelow count uses)
+    (table : IsClassTable count uses classes class_of) (low : AreUsesBelow count uses)
     (rows : List (Vec ℕ Global)) (all : AreAllDependences count uses rows) (w : Waiting)
-    (waits : IsWaiting (length classes) uses class_of w []) (none : (e : ℕ) → IsReady w.ready e → ⊥) where
+    (waits : IsWaiting (length classes) uses class_of w []) (none : (e : ℕ) → IsClassReady w.ready e → ⊥) where
   -- what a number of a class waits for reaches fewer numbers
   fewer : (x c d : ℕ) → Stands class_of x c → (y : Crosses uses class_of c d) → (d ≡ c → ⊥)
       → count_upto (reaches rows y.to) count < count_upto (reaches rows x) count

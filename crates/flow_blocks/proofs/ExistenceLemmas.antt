@@ -4,7 +4,7 @@ use Rattle.std.proofs.lemmas.Bool.{cases_eq, cases_lt}
 use Rattle.ar_base.specs.Lists.{Stands, IsOneOf}
 use Rattle.ar_base.proofs.Standing.{stands_none, stands_one, stands_left, stands_next, stands_split}
 use Rattle.flow_blocks.specs.Blocks.{Depends, directly, through, Together, same, each_other, IsGiven, MayBeGiven, IsNext, Follow, all_given, next}
-use Rattle.flow_blocks.specs.BlocksInside.{AreBelow}
+use Rattle.flow_blocks.specs.BlocksInside.{AreUsesBelow}
 use Rattle.flow_blocks.proofs.ClassLemmas.{depends_on, together_back, together_on}
 use Rattle.flow_blocks.proofs.TableLemmas.{the_one}
 use Rattle.flow_blocks.proofs.DescentLemmas.{count_upto, less}
@@ -53,7 +53,7 @@ first_least P end m n xs of first one = by one.place one.stands
     by zero p = let e : m ≡ n = stands_one xs 0 m n first p in omega arith
     by (suc k) p = let lt = of.ascending.ascends 0 (suc k) m n (omega arith) first p in omega arith
 
-module _ (count : ℕ) (uses : List (ℕ × ℕ)) (low : AreBelow count uses) where
+module _ (count : ℕ) (uses : List (ℕ × ℕ)) (low : AreUsesBelow count uses) where
   target_below : {a b : ℕ} → Depends uses a b → b < count
   target_below {a} {b} (directly one) = (low a b one).1
   target_below (through one rest) = target_below rest

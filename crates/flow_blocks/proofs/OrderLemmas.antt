@@ -5,16 +5,16 @@ use Rattle.std.proofs.lemmas.Bool.{cases_eq}
 use Rattle.ar_base.specs.Lists.{Stands, IsOneOf}
 use Rattle.ar_base.proofs.Standing.{stands_none, stands_one, stands_left, stands_next, stands_split, stands_within, stands_some, one_first}
 use Rattle.flow_blocks.specs.Blocks.{Depends, directly, through, Together, same, each_other, IsGiven, MayBeGiven, IsNext}
-use Rattle.flow_blocks.specs.BlocksInside.{AreBelow}
+use Rattle.flow_blocks.specs.BlocksInside.{AreUsesBelow}
 use Rattle.flow_blocks.specs.Table.{IsClassTable}
-use Rattle.flow_blocks.specs.Waits.{Crosses, IsReady, WasGiven, IsWaiting, IsTaken, AreGivenTogether}
+use Rattle.flow_blocks.specs.Waits.{Crosses, IsClassReady, WasGiven, IsWaiting, IsClassTaken, AreGivenTogether}
 use Rattle.flow_blocks.specs.declared.giving.Waiting.{Waiting}
 use Rattle.flow_blocks.proofs.ClassLemmas.{together_on, together_back}
 use Rattle.flow_blocks.proofs.TableLemmas.{the_one}
 use Rattle.flow_blocks.proofs.UseLemmas.{set_stands, set_keeps}
 
 module _ (count : ℕ) (uses : List (ℕ × ℕ)) (classes : List (List ℕ)) (class_of : List ℕ)
-    (table : IsClassTable count uses classes class_of) (low : AreBelow count uses) where
+    (table : IsClassTable count uses classes class_of) (low : AreUsesBelow count uses) where
   -- each number below count has a class
   pub some_class : (n : ℕ) → n < count → (c : ℕ) × Stands class_of n c
   some_class n lt = stands_some class_of n (omega (arith, lt, table.long))
@@ -60,7 +60,7 @@ module _ (count : ℕ) (uses : List (ℕ × ℕ)) (classes : List (List ℕ)) (c
         ]
 
     -- what a number of a ready class depends on is of the class or was given
-    ready_on : {a b : ℕ} → (c : ℕ) → IsReady w.ready c → Stands class_of a c → Depends uses a b
+    ready_on : {a b : ℕ} → (c : ℕ) → IsClassReady w.ready c → Stands class_of a c → Depends uses a b
         → Stands class_of b c ⊎ IsGiven lists b
     ready_on {a} {b} c ready p (directly one) =
         let d = some_class b (low a b one).1 in
@@ -77,7 +77,7 @@ module _ (count : ℕ) (uses : List (ℕ × ℕ)) (classes : List (List ℕ)) (c
 
     -- a class that may be given is ready
     is_ready : (n c : ℕ) → Stands class_of n c → (WasGiven w.given.items c → ⊥) → MayBeGiven uses lists n
-        → IsReady w.ready c
+        → IsClassReady w.ready c
     is_ready n c p free may =
         let found = table.member_of_class n c p in
         elim (waits.each c (stands_within classes c found.0 found.1) free) [
@@ -104,8 +104,8 @@ module _ (count : ℕ) (uses : List (ℕ × ℕ)) (classes : List (List ℕ)) (c
         by zero p = let e : m ≡ n = stands_one members 0 m n first p in omega arith
         by (suc k) p = let lt = (table.are_classes c members st).ascending.ascends 0 (suc k) m n (omega arith) first p in omega arith
 
-    pub next_class : (c : ℕ) (members : List ℕ) → Stands classes c members → IsReady w.ready c
-        → ((e : ℕ) → IsReady w.ready e → c ≤ e) → IsNext count uses lists members
+    pub next_class : (c : ℕ) (members : List ℕ) → Stands classes c members → IsClassReady w.ready c
+        → ((e : ℕ) → IsClassReady w.ready e → c ≤ e) → IsNext count uses lists members
     next_class c members st ready least = record {
       is_class = table.are_classes c members st;
       is_new = λ n one given. (waits.ready c ready).1 (rel.class n c (table.class_of_member c n members st one) given);
@@ -146,11 +146,11 @@ module _ (count : ℕ) (uses : List (ℕ × ℕ)) (classes : List (List ℕ)) (c
         by_together n b c p (each_other f g) = source_below g
 
     -- the least class is taken out of those that may be given
-    pub taken_state : (c : ℕ) (rest : BTreeSet ℕ) → IsReady w.ready c
-        → ((e : ℕ) → IsReady rest e ↔ (IsReady w.ready e × (e ≢ c)))
+    pub taken_state : (c : ℕ) (rest : BTreeSet ℕ) → IsClassReady w.ready c
+        → ((e : ℕ) → IsClassReady rest e ↔ (IsClassReady w.ready e × (e ≢ c)))
         → IsWaiting (length classes) uses class_of
         (record { targets = w.targets; watchers = w.watchers; given = w.given; ready = rest }) (c ∷ [])
-        × IsTaken uses class_of (record { targets = w.targets; watchers = w.watchers; given = w.given; ready = rest }) c
+        × IsClassTaken uses class_of (record { targets = w.targets; watchers = w.watchers; given = w.given; ready = rest }) c
     taken_state c rest ready left = (
       record {
         long_targets = waits.long_targets;

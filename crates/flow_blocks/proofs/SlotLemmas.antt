@@ -10,7 +10,7 @@ use Rattle.ar_base.proofs.Standing.{one_here}
 use Rattle.ar_base.proofs.Sets.{ascends_push}
 use Rattle.flow_blocks.specs.Blocks.{Depends, Together, same, each_other, IsClass}
 use Rattle.flow_blocks.specs.Bits.{row_of, HasBit, AreAllDependences}
-use Rattle.flow_blocks.specs.Slots.{mixed, sum_of, slot_of, AreSlots}
+use Rattle.flow_blocks.specs.Slots.{mixed, row_sum, slot_of, AreSlots}
 use Rattle.flow_blocks.specs.Table.{IsSelection}
 use Rattle.flow_blocks.proofs.RowLemmas.{Row, row_at, row_set_same, row_set_other}
 use Rattle.flow_blocks.proofs.ClassLemmas.{depends_on}
@@ -71,12 +71,12 @@ same_low a b alike = same_from_bits_below 64 (a % 2 ^ 64) (b % 2 ^ 64) (omega ar
 
 -- a sum takes of each word its 64 low bits
 sum_alike : (sum : ℕ) (xs ys : List ℕ) → length xs ≡ length ys
-    → ((k : ℕ) → slice_index xs k % 2 ^ 64 ≡ slice_index ys k % 2 ^ 64) → sum_of sum xs ≡ sum_of sum ys
+    → ((k : ℕ) → slice_index xs k % 2 ^ 64 ≡ slice_index ys k % 2 ^ 64) → row_sum sum xs ≡ row_sum sum ys
 sum_alike sum [] [] long alike = refl
 sum_alike sum [] (y ∷ ys) long alike = absurd (omega arith)
 sum_alike sum (x ∷ xs) [] long alike = absurd (omega arith)
 sum_alike sum (x ∷ xs) (y ∷ ys) long alike =
-    ap (λ (n : ℕ). sum_of n xs) (on ((sum * 11400714819323198485 % 2 ^ 64 + sum / 2 ^ 32) % 2 ^ 64) (alike 0))
+    ap (λ (n : ℕ). row_sum n xs) (on ((sum * 11400714819323198485 % 2 ^ 64 + sum / 2 ^ 32) % 2 ^ 64) (alike 0))
     ∙ sum_alike (mixed sum y) xs ys (omega (arith, long)) (λ k. alike (suc k))
   where
     on : (n : ℕ) → x % 2 ^ 64 ≡ y % 2 ^ 64 → (n + x) % 2 ^ 64 ≡ (n + y) % 2 ^ 64

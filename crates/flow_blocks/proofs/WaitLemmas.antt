@@ -10,7 +10,7 @@ use Rattle.std.specs.Ordering.{nat_cmp}
 use Rattle.ar_base.specs.Lists.{Stands, IsOneOf}
 use Rattle.ar_base.proofs.Standing.{stands_none, stands_left, stands_next, stands_split, one_rest, one_cases, one_first}
 use Rattle.flow_blocks.specs.Bits.{row_of}
-use Rattle.flow_blocks.specs.Waits.{Crosses, IsReady, WasGiven, IsWaiting, IsTaken}
+use Rattle.flow_blocks.specs.Waits.{Crosses, IsClassReady, WasGiven, IsWaiting, IsClassTaken}
 use Rattle.flow_blocks.specs.declared.giving.Waiting.{Waiting}
 use Rattle.flow_blocks.proofs.RowLemmas.{row_set_same, row_set_other}
 use Rattle.flow_blocks.proofs.TableLemmas.{the_one}
@@ -67,7 +67,7 @@ module _ (count : ℕ) (uses : List (ℕ × ℕ)) (class_of : List ℕ) (w v : W
     long_given = ap length given ∙ waits.long_given;
     crossed = waits.crossed;
     each = λ e lt free. elim (waits.each e lt (λ g. free (forth e g))) [
-      | inl ready ↦ inl (subst (λ r. IsReady r e) (sym same_ready) ready)
+      | inl ready ↦ inl (subst (λ r. IsClassReady r e) (sym same_ready) ready)
       | inr more ↦ elim more [
         | inl waiting ↦ inr (inl (
           waiting.0,
@@ -86,7 +86,7 @@ module _ (count : ℕ) (uses : List (ℕ × ℕ)) (class_of : List ℕ) (w v : W
         ]
       ]
     ];
-    ready = λ e r. let h = waits.ready e (subst (λ s. IsReady s e) same_ready r) in
+    ready = λ e r. let h = waits.ready e (subst (λ s. IsClassReady s e) same_ready r) in
         (h.0, λ g. h.1 (back e g), λ d crosses. elim (h.2 d crosses) [ inl same ↦ inl same | inr g ↦ inr (forth d g) ]);
     watching = λ d e one. elim (watched d e one) [
       | inl old ↦ waits.watching d e old
@@ -106,7 +106,7 @@ module _ (count : ℕ) (uses : List (ℕ × ℕ)) (class_of : List ℕ) (w v : W
 
   -- the class may be given
   pub ready_now : ((d : ℕ) → IsOneOf (row_of w.targets.items class) d → (d ≡ class) ⊎ WasGiven w.given.items d)
-      → ((e : ℕ) → IsReady v.ready e ↔ (IsReady w.ready e ⊎ (e ≡ class)))
+      → ((e : ℕ) → IsClassReady v.ready e ↔ (IsClassReady w.ready e ⊎ (e ≡ class)))
       → v.watchers.items ≡ w.watchers.items → IsWaiting count uses class_of v pending
   ready_now none_left added same_watchers = record {
     long_targets = trimmed.long ∙ waits.long_targets;
@@ -155,7 +155,7 @@ module _ (count : ℕ) (uses : List (ℕ × ℕ)) (class_of : List ℕ) (w v : W
 -- a class is given, and those that wait for it are still to be looked at
 module _ (count : ℕ) (uses : List (ℕ × ℕ)) (class_of : List ℕ) (w v : Waiting) (class : ℕ)
     (waits : IsWaiting count uses class_of w (class ∷ []))
-    (taken : IsTaken uses class_of w class) (given : v.given.items ≡ set w.given.items class true)
+    (taken : IsClassTaken uses class_of w class) (given : v.given.items ≡ set w.given.items class true)
     (same_targets : v.targets.items ≡ w.targets.items) (same_ready : v.ready ≡ w.ready)
     (long : length v.watchers.items ≡ length w.watchers.items)
     (cleared : (e : ℕ) → IsOneOf (row_of v.watchers.items class) e → ⊥)
@@ -195,7 +195,7 @@ module _ (count : ℕ) (uses : List (ℕ × ℕ)) (class_of : List ℕ) (w v : W
     long_given = ap length given ∙ length-set w.given.items class true ∙ waits.long_given;
     crossed = waits.crossed;
     each = λ e lt not_now. elim (waits.each e lt (λ g. not_now (more_given e g))) [
-      | inl ready ↦ inl (subst (λ r. IsReady r e) (sym same_ready) ready)
+      | inl ready ↦ inl (subst (λ r. IsClassReady r e) (sym same_ready) ready)
       | inr more ↦ elim more [
         | inl waiting ↦ elim (cases_eq waiting.0 class) [
           | inl is ↦ inr (inr (subst (λ (k : ℕ). IsOneOf (row_of w.watchers.items k) e) is waiting.1.watches))
@@ -214,10 +214,10 @@ module _ (count : ℕ) (uses : List (ℕ × ℕ)) (class_of : List ℕ) (w v : W
         ]
       ]
     ];
-    ready = λ e r. let h = waits.ready e (subst (λ s. IsReady s e) same_ready r) in (
+    ready = λ e r. let h = waits.ready e (subst (λ s. IsClassReady s e) same_ready r) in (
       h.0,
       λ g. elim (given_before e g) [
-        | inl is ↦ taken.not_ready (subst (λ (k : ℕ). IsReady w.ready k) is (subst (λ s. IsReady s e) same_ready r))
+        | inl is ↦ taken.not_ready (subst (λ (k : ℕ). IsClassReady w.ready k) is (subst (λ s. IsClassReady s e) same_ready r))
         | inr before ↦ h.1 before
       ],
       λ d crosses. elim (h.2 d crosses)
@@ -329,7 +329,7 @@ after_giving w class empty = record {
 }
 
 pub given_state : (count : ℕ) (uses : List (ℕ × ℕ)) (class_of : List ℕ) (w : Waiting) (class : ℕ) (empty : Vec ℕ Global)
-    (watchers : List ℕ) → IsWaiting count uses class_of w (class ∷ []) → IsTaken uses class_of w class
+    (watchers : List ℕ) → IsWaiting count uses class_of w (class ∷ []) → IsClassTaken uses class_of w class
     → empty.items ≡ [] → watchers ≡ row_of w.watchers.items class
     → IsWaiting count uses class_of (after_giving w class empty) watchers
 given_state count uses class_of w class empty watchers waits taken none is =
@@ -341,5 +341,5 @@ given_state count uses class_of w class empty watchers waits taken none is =
     (emptied w.watchers.items class empty inside none) (others_kept w.watchers.items class empty))
 
 -- nothing is ready at first
-pub none_ready : (s : BTreeSet ℕ) (e : ℕ) → s.keys ≡ [] → IsReady s e → ⊥
+pub none_ready : (s : BTreeSet ℕ) (e : ℕ) → s.keys ≡ [] → IsClassReady s e → ⊥
 none_ready s e is r = true≢false (sym r ∙ ap (λ (ks : List ℕ). list_any (is_at (nat_cmp e)) ks) is)

@@ -4,5 +4,5 @@ use Rattle.std.specs.Prelude.{ℕ, ◌<◌, List}
 use Rattle.ar_base.specs.Lists.{IsOneOf}
 
 -- all numbers of the uses are below count
-abbrev pub AreBelow : ℕ → List (ℕ × ℕ) → Type 0
-AreBelow count uses = (a b : ℕ) → IsOneOf uses (a, b) → (a < count) × (b < count)
+abbrev pub AreUsesBelow : ℕ → List (ℕ × ℕ) → Type 0
+AreUsesBelow count uses = (a b : ℕ) → IsOneOf uses (a, b) → (a < count) × (b < count)

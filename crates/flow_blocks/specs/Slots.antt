@@ -10,13 +10,13 @@ abbrev pub mixed : ℕ → ℕ → ℕ
 mixed sum word = ((sum * 11400714819323198485 % 2 ^ 64 + sum / 2 ^ 32) % 2 ^ 64 + word) % 2 ^ 64
 
 -- the sum of a row, behind words that have this one
-abbrev pub sum_of : ℕ → List ℕ → ℕ
-sum_of sum [] = sum
-sum_of sum (word ∷ row) = sum_of (mixed sum word) row
+abbrev pub row_sum : ℕ → List ℕ → ℕ
+row_sum sum [] = sum
+row_sum sum (word ∷ row) = row_sum (mixed sum word) row
 
 -- the slot of a row, where there are that many
 abbrev pub slot_of : ℕ → List ℕ → ℕ
-slot_of count row = sum_of 0 row % count
+slot_of count row = row_sum 0 row % count
 
 -- the numbers below `end` by the slots of their rows
 pub record AreSlots (count : ℕ) (rows : List (Vec ℕ Global)) (end : ℕ) (slots : List (Vec ℕ Global)) : Type 0 where

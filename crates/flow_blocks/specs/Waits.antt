@@ -17,15 +17,15 @@ pub record Crosses (uses : List (ℕ × ℕ)) (class_of : List ℕ) (e d : ℕ) 
   pub class_to : Stands class_of to d
 
 -- the class is among those that may be given
-abbrev pub IsReady : BTreeSet ℕ → ℕ → Type 0
-IsReady ready e = IsTrue (contains nat_cmp ready e)
+abbrev pub IsClassReady : BTreeSet ℕ → ℕ → Type 0
+IsClassReady ready e = IsTrue (contains nat_cmp ready e)
 
 -- the class was given
 abbrev pub WasGiven : List Bool → ℕ → Type 0
 WasGiven given e = Stands given e true
 
 -- the class waits for another one that was not given
-pub record WaitsFor (watchers : List (Vec ℕ Global)) (given : List Bool) (e d : ℕ) : Type 0 where
+pub record WaitsForClass (watchers : List (Vec ℕ Global)) (given : List Bool) (e d : ℕ) : Type 0 where
   pub watches : IsOneOf (row_of watchers d) e
   pub not_given : WasGiven given d → ⊥
 
@@ -37,8 +37,8 @@ pub record IsWaiting (count : ℕ) (uses : List (ℕ × ℕ)) (class_of : List �
   pub long_given : length w.given.items ≡ count
   pub crossed : (e d : ℕ) → Crosses uses class_of e d → d < count
   pub each : (e : ℕ) → e < count → (WasGiven w.given.items e → ⊥)
-      → IsReady w.ready e ⊎ (((d : ℕ) × WaitsFor w.watchers.items w.given.items e d) ⊎ IsOneOf pending e)
-  pub ready : (e : ℕ) → IsReady w.ready e
+      → IsClassReady w.ready e ⊎ (((d : ℕ) × WaitsForClass w.watchers.items w.given.items e d) ⊎ IsOneOf pending e)
+  pub ready : (e : ℕ) → IsClassReady w.ready e
       → (e < count) × (WasGiven w.given.items e → ⊥)
       × ((d : ℕ) → Crosses uses class_of e d → (d ≡ e) ⊎ WasGiven w.given.items d)
   pub watching : (d e : ℕ) → IsOneOf (row_of w.watchers.items d) e → (e < count) × Crosses uses class_of e d × (d ≢ e)
@@ -55,12 +55,12 @@ left_to_give (true ∷ given) = left_to_give given
 left_to_give (false ∷ given) = left_to_give given + 1
 
 -- the class was taken out of those that may be given: all other classes that it uses were given
-pub record IsTaken (uses : List (ℕ × ℕ)) (class_of : List ℕ) (w : Waiting) (class : ℕ) : Type 0 where
+pub record IsClassTaken (uses : List (ℕ × ℕ)) (class_of : List ℕ) (w : Waiting) (class : ℕ) : Type 0 where
   pub all_given : (d : ℕ) → Crosses uses class_of class d → (d ≡ class) ⊎ WasGiven w.given.items d
-  pub not_ready : IsReady w.ready class → ⊥
+  pub not_ready : IsClassReady w.ready class → ⊥
 
 -- some uses make this a state of waiting
-pub record Waits (w : Waiting) (pending : List ℕ) : Type 0 where
+pub record AreWaiting (w : Waiting) (pending : List ℕ) : Type 0 where
   pub count : ℕ
   pub uses : List (ℕ × ℕ)
   pub class_of : List ℕ

@@ -2,7 +2,7 @@
 
 ghost use Rattle.std.specs.Prelude.{◌≡◌, ℕ, ◌≤◌, ◌<◌, ◌⊎◌, ◌↔◌, IsTrue, false, IfOk};
 ghost use Rattle.ar_base.specs.Lists.{IsOneOf};
-ghost use Rattle.flow_blocks.specs.BlocksInside.{AreBelow};
+ghost use Rattle.flow_blocks.specs.BlocksInside.{AreUsesBelow};
 ghost use Rattle.flow_blocks.specs.Bits.{HasBit, AreRows, AreDependences, AreClosed, room_left};
 
 use crate::rows::{add, empty_rows};
@@ -17,7 +17,7 @@ pub(crate) fn direct_rows(
     count: u32,
     uses: &[(u32, u32)],
 ) -> Result<Vec<Vec<u64>>, Memory>
-    requires { AreBelow count uses.now }
+    requires { AreUsesBelow count uses.now }
     ensures rows { IfOk result (λ rows. AreRows count rows.items) }
     ensures bits { IfOk result (λ rows. (a n : ℕ) → HasBit rows.items a n
         ↔ IsOneOf uses.now (a, n)) }
@@ -51,7 +51,7 @@ pub(crate) fn close(
     places: &[u32],
 )
     requires rows { AreRows count rows.old }
-    requires below { AreBelow count uses.now }
+    requires below { AreUsesBelow count uses.now }
     ensures rows { AreRows count rows.new }
     ensures grows { (a n : ℕ) → HasBit rows.old a n → HasBit rows.new a n }
     ensures sound { AreDependences uses.now rows.old → AreDependences uses.now rows.new }
@@ -74,7 +74,7 @@ fn join_at_all(
     places: &[u32],
 )
     requires rows { AreRows count rows.old }
-    requires below { AreBelow count uses.now }
+    requires below { AreUsesBelow count uses.now }
     ensures rows { AreRows count rows.new }
     ensures grows { (a n : ℕ) → HasBit rows.old a n → HasBit rows.new a n }
     ensures sound { AreDependences uses.now rows.old → AreDependences uses.now rows.new }
@@ -90,7 +90,7 @@ fn join_at_all(
 /// Joins the rows by each use, and says whether one changed.
 fn pass(alloc: Global, count: u32, rows: &mut [Vec<u64>], uses: &[(u32, u32)]) -> bool
     requires rows { AreRows count rows.old }
-    requires below { AreBelow count uses.now }
+    requires below { AreUsesBelow count uses.now }
     ensures rows { AreRows count rows.new }
     ensures grows { (a n : ℕ) → HasBit rows.old a n → HasBit rows.new a n }
     ensures sound { AreDependences uses.now rows.old → AreDependences uses.now rows.new }

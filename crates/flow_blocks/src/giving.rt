@@ -5,10 +5,10 @@ ghost use Rattle.std.specs.Prelude.{Vec};
 ghost use Rattle.std.specs.Global.{Global};
 ghost use Rattle.ar_base.specs.Lists.{Stands, IsOneOf};
 ghost use Rattle.flow_blocks.specs.Blocks.{Follow};
-ghost use Rattle.flow_blocks.specs.BlocksInside.{AreBelow};
+ghost use Rattle.flow_blocks.specs.BlocksInside.{AreUsesBelow};
 ghost use Rattle.flow_blocks.specs.Bits.{row_of, AreAllDependences};
 ghost use Rattle.flow_blocks.specs.Table.{members_of, IsClassTable};
-ghost use Rattle.flow_blocks.specs.Waits.{Crosses, IsReady, WasGiven, IsWaiting, Waits, IsTaken, left_to_give};
+ghost use Rattle.flow_blocks.specs.Waits.{Crosses, IsClassReady, WasGiven, IsWaiting, AreWaiting, IsClassTaken, left_to_give};
 
 use crate::Block;
 use crate::classing::ClassTable;
@@ -38,7 +38,7 @@ pub(crate) fn in_order(
 ) -> Result<Vec<Block>, Memory>
     requires table { IsClassTable count uses.now (members_of table.now.blocks.items)
         table.now.class_of.items }
-    requires below { AreBelow count uses.now }
+    requires below { AreUsesBelow count uses.now }
     requires reaches { (rows : List (Vec ℕ Global)) × AreAllDependences count uses.now rows }
     ensures { IfOk result (λ found. Follow count uses.now [] (members_of found.items)) }
 {
@@ -56,18 +56,18 @@ pub(crate) fn in_order(
 
 /// The least class that may be given.
 fn take_least(ready: &mut BTreeSet<u32>) -> Option<u32>
-    ensures some { IfSome result (λ c. IsReady ready.old c) }
-    ensures least { IfSome result (λ c. (e : ℕ) → IsReady ready.old e → c ≤ e) }
-    ensures rest { IfSome result (λ c. (e : ℕ) → IsReady ready.new e
-        ↔ (IsReady ready.old e × (e ≢ c))) }
-    ensures none { IfNone result ((e : ℕ) → IsReady ready.old e → ⊥) }
+    ensures some { IfSome result (λ c. IsClassReady ready.old c) }
+    ensures least { IfSome result (λ c. (e : ℕ) → IsClassReady ready.old e → c ≤ e) }
+    ensures rest { IfSome result (λ c. (e : ℕ) → IsClassReady ready.new e
+        ↔ (IsClassReady ready.old e × (e ≢ c))) }
+    ensures none { IfNone result ((e : ℕ) → IsClassReady ready.old e → ⊥) }
 {
     ready.pop_first()
 }
 
 /// Adds a class to those that may be given.
 fn add_ready(ready: &mut BTreeSet<u32>, class: u32) -> Result<(), Memory>
-    ensures { OnOk result ((e : ℕ) → IsReady ready.new e ↔ (IsReady ready.old e ⊎ (e ≡ class))) }
+    ensures { OnOk result ((e : ℕ) → IsClassReady ready.new e ↔ (IsClassReady ready.old e ⊎ (e ≡ class))) }
 {
     ready.insert(class)?;
     Ok(())
@@ -138,7 +138,7 @@ impl Waiting {
 
     /// Has a class wait for a class that it uses and that was not given, or be ready.
     fn examine(&mut self, class: u32) -> Result<(), Memory>
-        requires { (pending : List ℕ) × Waits self.old (class ∷ pending) }
+        requires { (pending : List ℕ) × AreWaiting self.old (class ∷ pending) }
         ensures waits { (count : ℕ) (uses : List (ℕ × ℕ)) (class_of pending : List ℕ)
             → IsWaiting count uses class_of self.old (class ∷ pending)
             → IfOk result (λ _. IsWaiting count uses class_of self.new pending) }
@@ -158,7 +158,7 @@ impl Waiting {
 
     /// Looks at each of these classes.
     fn examine_all(&mut self, classes: &[u32]) -> Result<(), Memory>
-        requires { Waits self.old classes.now }
+        requires { AreWaiting self.old classes.now }
         ensures waits { (count : ℕ) (uses : List (ℕ × ℕ)) (class_of : List ℕ)
             → IsWaiting count uses class_of self.old classes.now
             → IfOk result (λ _. IsWaiting count uses class_of self.new []) }
@@ -172,10 +172,10 @@ impl Waiting {
 
     /// Gives a class, and looks again at those that wait for it.
     fn give(&mut self, alloc: Global, class: u32) -> Result<(), Memory>
-        requires { (w : Waits self.old (class ∷ [])) × IsTaken w.uses w.class_of self.old class }
+        requires { (w : AreWaiting self.old (class ∷ [])) × IsClassTaken w.uses w.class_of self.old class }
         ensures waits { (count : ℕ) (uses : List (ℕ × ℕ)) (class_of : List ℕ)
             → IsWaiting count uses class_of self.old (class ∷ [])
-            → IsTaken uses class_of self.old class
+            → IsClassTaken uses class_of self.old class
             → IfOk result (λ _. IsWaiting count uses class_of self.new []) }
         ensures given { self.new.given.items ≡ slice_set self.old.given.items class true }
     {

@@ -2,7 +2,7 @@
 
 ghost use Rattle.std.specs.Prelude.{◌≡◌, [], map, IfOk, IsTrue};
 ghost use Rattle.flow_blocks.specs.Blocks.{Follow};
-ghost use Rattle.flow_blocks.specs.BlocksInside.{AreBelow};
+ghost use Rattle.flow_blocks.specs.BlocksInside.{AreUsesBelow};
 
 use crate::classing::classes;
 use crate::closing::{close, direct_rows};
@@ -31,7 +31,7 @@ pub struct Block {
 /// depends on the other, directly or through others. A class comes after every class on which it
 /// depends, and of those that may come the one with the least member is next.
 pub fn blocks(alloc: Global, graph: &Graph) -> Result<Vec<Block>, Memory>
-    requires { AreBelow graph.now.count graph.now.uses.items }
+    requires { AreUsesBelow graph.now.count graph.now.uses.items }
     ensures { IfOk result (λ found. Follow graph.now.count graph.now.uses.items []
         (map (λ b. b.members.items) found.items)) }
 {

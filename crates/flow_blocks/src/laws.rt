@@ -3,7 +3,7 @@
 ghost use Rattle.std.specs.Prelude.{◌≡◌, ℕ, ◌<◌, ◌⊎◌, List, [], take};
 ghost use Rattle.ar_base.specs.Lists.{Stands, IsOneOf};
 ghost use Rattle.flow_blocks.specs.Blocks.{Depends, IsGiven, Follow};
-ghost use Rattle.flow_blocks.specs.BlocksInside.{AreBelow};
+ghost use Rattle.flow_blocks.specs.BlocksInside.{AreUsesBelow};
 
 /// Laws of the blocks of a graph.
 ///
@@ -12,7 +12,7 @@ ghost use Rattle.flow_blocks.specs.BlocksInside.{AreBelow};
 /// - `some_class`, `one_class`, `earlier_class`: Each number is in exactly one class, and what it depends on is
 ///   in that class or in an earlier one.
 pub fn block_laws()
-    ensures some_list { (count : ℕ) (uses : List (ℕ × ℕ)) → AreBelow count uses
+    ensures some_list { (count : ℕ) (uses : List (ℕ × ℕ)) → AreUsesBelow count uses
         → (blocks : List (List ℕ)) × Follow count uses [] blocks }
     ensures one_list { (count : ℕ) (uses : List (ℕ × ℕ)) (xs ys : List (List ℕ))
         → Follow count uses [] xs → Follow count uses [] ys → xs ≡ ys }

@@ -2,7 +2,7 @@
 
 ghost use Rattle.std.specs.Prelude.{◌≡◌, ◌<◌, ◌+◌, IfOk};
 ghost use Rattle.flow_blocks.specs.Bits.{row_of, AreRows};
-ghost use Rattle.flow_blocks.specs.Slots.{sum_of, slot_of, AreSlots};
+ghost use Rattle.flow_blocks.specs.Slots.{row_sum, slot_of, AreSlots};
 
 use crate::lists::empty_lists;
 use ar_base::Memory;
@@ -37,7 +37,7 @@ pub(crate) fn slot_of(count: u32, rows: &[Vec<u64>], number: u32) -> u32
 
 /// One number made of all words of a row.
 fn sum_of(row: &[u64]) -> u64
-    ensures { result ≡ sum_of 0 row.now }
+    ensures { result ≡ row_sum 0 row.now }
 {
     let mut sum: u64 = 0;
     for word in row {

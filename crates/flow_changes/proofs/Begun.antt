@@ -10,7 +10,7 @@ use Rattle.gts_core.specs.declared.system.Variable.{Variable}
 use Rattle.gts_core.specs.declared.system.GtsParts.{GtsParts}
 use Rattle.flow_propagate.specs.NewValues.{written, AreNewValues}
 use Rattle.value_changes.specs.Picking.{AreWithin}
-use Rattle.flow_changes.specs.Known.{numbers_of, Resets}
+use Rattle.flow_changes.specs.Known.{changing_numbers, Resets}
 use Rattle.value_changes.proofs.Picks.{set_same, set_other, drop_next, drop_none, one_taken, one_before, one_now}
 
 pub written_next : (cur : List Value) (new : List (VarId × Value)) (i : ℕ) (r : VarId × Value) → Stands new i r
@@ -76,10 +76,10 @@ module _ (p : GtsParts) (members : List ℕ) (known : List Bool) (old : List Val
   resets_done i new h r = subst (λ (z : List ℕ). Resets p z known old new) (take_all i members h) r
 
 pub new_there : (new : List (VarId × Value)) (i : ℕ) (r : VarId × Value) → Stands new i r
-    → Stands (numbers_of new) i r.0.n
+    → Stands (changing_numbers new) i r.0.n
 new_there new i r s = stands_map (λ (r : VarId × Value). r.0.n) new i r s
 
-pub new_within : {A : Type 0} (new : List (VarId × Value)) (all : List A) → AreWithin (numbers_of new) all
+pub new_within : {A : Type 0} (new : List (VarId × Value)) (all : List A) → AreWithin (changing_numbers new) all
     → (i : ℕ) (r : VarId × Value) → Stands new i r → r.0.n < length all
 new_within new all w i r s = w r.0.n (record { place = i; stands = new_there new i r s })
 
@@ -87,13 +87,13 @@ new_within new all w i r s = w r.0.n (record { place = i; stands = new_there new
 abbrev pub no_pair : VarId × Value
 no_pair = (record { n = 0; of = record {} }, Truth false)
 
-pub numbers_long : (new : List (VarId × Value)) → length (numbers_of new) ≡ length new
+pub numbers_long : (new : List (VarId × Value)) → length (changing_numbers new) ≡ length new
 numbers_long [] = refl
 numbers_long (r ∷ new) = ap suc (numbers_long new)
 
 -- the variables that get new values are those of the system
 pub new_inside : (p : GtsParts) (new : List (VarId × Value)) → AreNewValues p new
-    → AreWithin (numbers_of new) p.variables.items
+    → AreWithin (changing_numbers new) p.variables.items
 new_inside p new are n o =
     let r = stands_map_back (λ (r : VarId × Value). r.0.n) new o.place n o.stands in
     let is = are.each r.0 (one_here new o.place r.0 r.1) in

@@ -16,8 +16,8 @@ use Rattle.flow_propagate.specs.declared.plan.Plan.{Plan}
 use Rattle.flow_changes.specs.Cone.{Knows, HasAll}
 use Rattle.flow_changes.specs.Known.{Touches}
 use Rattle.value_changes.specs.Picking.{KeepsOthers}
-use Rattle.flow_changes.specs.Queue.{IsQueue, WaitsAt, TakesPlace}
-use Rattle.flow_changes.specs.Following.{Waits, Looks, HasPlacesTo, ClosesUp, work_left}
+use Rattle.flow_changes.specs.Queue.{IsQueue, PlaceWaits, TakesPlace}
+use Rattle.flow_changes.specs.Following.{WaitsInQueue, Looks, HasPlacesTo, ClosesUp, work_left}
 use Rattle.flow_changes.specs.declared.queue.Queue.{Queue}
 use Rattle.value_changes.proofs.Picks.{keeps_same, keeps_then, keeps_more}
 use Rattle.flow_changes.proofs.Looks.{read_by, touches_total, looks_sound, taken}
@@ -34,7 +34,7 @@ pub record Closing (p : GtsParts) (plan : Plan) (members : List ℕ) (state : Li
   pub queue : IsQueue work
   pub places : HasPlacesTo p plan members work.list.items
   pub settled : (m : ℕ) (a : Assign) → Stands p.assigns.items m a → IsOneOf members a.target.n
-      → Waits plan work m ⊎ HasAll (Knows values known) (assign_of a)
+      → WaitsInQueue plan work m ⊎ HasAll (Knows values known) (assign_of a)
 
 -- at the start all assignments to the members wait
 pub closing_start : (p : GtsParts) (plan : Plan) (members : List ℕ) (state : List Value) (first : List Bool)
@@ -125,7 +125,7 @@ module _ (p : GtsParts) (sound : IsSound p) (plan : Plan) (is : IsPlan p plan) (
 -- where none waits the facts are gathered
 pub closing_done : (p : GtsParts) (plan : Plan) (members : List ℕ) (state : List Value) (first : List Bool)
     (values : List Value) (known : List Bool) (work : Queue) → Closing p plan members state first values known work
-    → ((q : ℕ) → WaitsAt work q → ⊥) → ClosesUp p plan members state first values known work.list.items
+    → ((q : ℕ) → PlaceWaits work q → ⊥) → ClosesUp p plan members state first values known work.list.items
 closing_done p plan members state first values known work c none = record {
   total = c.total;
   grows = c.grows;

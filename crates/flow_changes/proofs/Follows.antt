@@ -24,7 +24,7 @@ use Rattle.flow_propagate.specs.Plan.{IsPlan}
 use Rattle.flow_propagate.specs.declared.plan.Plan.{Plan}
 use Rattle.flow_propagate.proofs.Written.{written_long}
 use Rattle.flow_changes.specs.Cone.{IsFlowAt, IsCone, Knows}
-use Rattle.flow_changes.specs.Known.{numbers_of, Resets}
+use Rattle.flow_changes.specs.Known.{changing_numbers, Resets}
 use Rattle.value_changes.specs.Picking.{KeepsOthers, AreSet}
 use Rattle.flow_changes.specs.Following.{ClosesUp}
 use Rattle.flow_changes.proofs.Written.{written_not, written_at, written_total}
@@ -51,21 +51,21 @@ module _ (p : GtsParts) (sound : IsSound p) (old : List Value) (known : List Boo
   -- the members are variables of the system
   pub inside : (n : ℕ) → IsOneOf members n → n < length p.variables.items
   inside n o = elim (cone.only n o) [
-    | inl r ↦ new_inside p new good n (subst (λ (z : ℕ). IsOneOf (numbers_of new) z) r.is (number_of r))
+    | inl r ↦ new_inside p new good n (subst (λ (z : ℕ). IsOneOf (changing_numbers new) z) r.is (number_of r))
     | inr f ↦ stands_within p.variables.items n f.variable f.stands
   ]
     where
-      number_of : (r : IsRenewed new n) → IsOneOf (numbers_of new) r.pair.0.n
+      number_of : (r : IsRenewed new n) → IsOneOf (changing_numbers new) r.pair.0.n
       number_of r = record { place = r.is_one.place; stands = ap_stands r.is_one.place r.pair r.is_one.stands }
         where
-          ap_stands : (k : ℕ) (q : VarId × Value) → Stands new k q → Stands (numbers_of new) k q.0.n
+          ap_stands : (k : ℕ) (q : VarId × Value) → Stands new k q → Stands (changing_numbers new) k q.0.n
           ap_stands k q s = stands_map (λ (r : VarId × Value). r.0.n) new k q s
 
-  renewed_of : (n : ℕ) → IsOneOf (numbers_of new) n → IsRenewed new n
+  renewed_of : (n : ℕ) → IsOneOf (changing_numbers new) n → IsRenewed new n
   renewed_of n o = let r = stands_map_back (λ (r : VarId × Value). r.0.n) new o.place n o.stands in record { pair = r.0; is_one = one_here new o.place r.0 r.1; is = r.2 }
 
   -- a flow gets no new value
-  flow_not : (n : ℕ) → IsFlowAt p n → IsOneOf (numbers_of new) n → ⊥
+  flow_not : (n : ℕ) → IsFlowAt p n → IsOneOf (changing_numbers new) n → ⊥
   flow_not n f o =
       let r = renewed_of n o in
       let is = good.each r.pair r.is_one in
@@ -76,7 +76,7 @@ module _ (p : GtsParts) (sound : IsSound p) (old : List Value) (known : List Boo
       cc (sym is.is_state ∙ e ∙ f.is_flow)
 
   module _ (cleared first : List Bool) (clears : AreSet false members known cleared)
-      (marks : AreSet true (numbers_of new) cleared first) where
+      (marks : AreSet true (changing_numbers new) cleared first) where
     renewed_first : (r : VarId × Value) → IsOneOf new r → Knows u first r.0.n r.1
     renewed_first r o = record {
       marked = marks.each r.0.n (record {
@@ -209,11 +209,11 @@ kept_through p old new members cone values k =
 
 pub marks_through : (p : GtsParts) (new : List (VarId × Value)) (members : List ℕ) → IsCone p new members
     → (known cleared first marked : List Bool) → AreSet false members known cleared
-    → AreSet true (numbers_of new) cleared first → KeepsOthers members first marked → KeepsOthers members known marked
+    → AreSet true (changing_numbers new) cleared first → KeepsOthers members first marked → KeepsOthers members known marked
 marks_through p new members cone known cleared first marked a b k = record {
   long = k.long ∙ b.keeps.long ∙ a.keeps.long;
   others = λ n o. k.others n o ∙ b.keeps.others n (λ h. o (cone.starts n (of_number n h))) ∙ a.keeps.others n o;
 }
   where
-    of_number : (n : ℕ) → IsOneOf (numbers_of new) n → IsRenewed new n
+    of_number : (n : ℕ) → IsOneOf (changing_numbers new) n → IsRenewed new n
     of_number n o = let r = stands_map_back (λ (r : VarId × Value). r.0.n) new o.place n o.stands in record { pair = r.0; is_one = one_here new o.place r.0 r.1; is = r.2 }

@@ -9,11 +9,11 @@ use Rattle.typed_expr.specs.Yields.{Yields}
 use Rattle.typed_expr.specs.YieldsInside.{facts_of}
 use Rattle.typed_expr.specs.declared.expr.Expr.{Expr, out-Expr}
 use Rattle.ar_meaning.specs.Facts.{PassesConditions, none, one_and}
-use Rattle.gts_core.specs.Readings.{values_at, one_or_none}
+use Rattle.gts_core.specs.Readings.{valuation_values, one_or_none}
 use Rattle.gts_core.specs.View.{numbered, condition_of}
 use Rattle.gts_core.proofs.Numbering.{yields_numbered, yields_back}
 use Rattle.flow_changes.specs.Cone.{Knows}
-use Rattle.flow_propagate.specs.Determined.{known_at}
+use Rattle.flow_propagate.specs.Determined.{marked_value_at}
 
 module _ (values : List Value) (known : List Bool) where
   -- a known value is the one at the variable's place
@@ -25,24 +25,24 @@ module _ (values : List Value) (known : List Bool) where
   by_mark n v (Some false) o e f h = absurd (omega (arith, h.1))
   by_mark n v None o e f h = absurd (omega (arith, h.1))
 
-  pub known_back : (n : ℕ) (v : Value) → Contains (known_at values known n) v → Knows values known n v
+  pub known_back : (n : ℕ) (v : Value) → Contains (marked_value_at values known n) v → Knows values known n v
   known_back n v h = by_mark n v (slice_get known n) (slice_get values n) refl refl h
 
-  pub known_there : (n : ℕ) (v : Value) → Knows values known n v → Contains (known_at values known n) v
+  pub known_there : (n : ℕ) (v : Value) → Knows values known n v → Contains (marked_value_at values known n) v
   known_there n v k =
-      let e : known_at values known n ≡ v ∷ [] =
-      ap (λ (m : Option Bool). cond (unwrap_or m false) (values_at values n) []) k.marked
+      let e : marked_value_at values known n ≡ v ∷ [] =
+      ap (λ (m : Option Bool). cond (unwrap_or m false) (valuation_values values n) []) k.marked
       ∙ ap one_or_none k.value in
       subst (λ (z : List Value). Contains z v) (sym e) (0, omega arith, refl)
 
   -- the set of what the expression yields is that of its form over plain numbers
   pub tells : (e : Expr VarId) (set : List Value)
-      → HasExactly set (Yields (facts_of (λ (x : VarId). known_at values known x.n)) (out-Expr VarId e))
+      → HasExactly set (Yields (facts_of (λ (x : VarId). marked_value_at values known x.n)) (out-Expr VarId e))
       → HasExactly set (Yields (Knows values known) (out-Expr ℕ (numbered e)))
   tells e set h = record {
-    sound = λ v c. yields_numbered (facts_of (λ (x : VarId). known_at values known x.n)) (Knows values known) e v
+    sound = λ v c. yields_numbered (facts_of (λ (x : VarId). marked_value_at values known x.n)) (Knows values known) e v
         (λ x w f. known_back x.n w f) (h.sound v c);
-    complete = λ v y. h.complete v (yields_back (facts_of (λ (x : VarId). known_at values known x.n))
+    complete = λ v y. h.complete v (yields_back (facts_of (λ (x : VarId). marked_value_at values known x.n))
         (Knows values known) e v (λ x w f. known_there x.n w f) y);
   }
 

@@ -26,8 +26,8 @@ use Rattle.flow_propagate.specs.declared.plan.Plan.{Plan}
 use Rattle.flow_propagate.proofs.Numbered.{read_there, read_back}
 use Rattle.flow_changes.specs.Cone.{Knows, HasAll}
 use Rattle.flow_changes.specs.Known.{Applies, Touches, unmarked}
-use Rattle.flow_changes.specs.Queue.{IsQueue, AddsPlaces, IsPlaceOf, TakesPlace}
-use Rattle.flow_changes.specs.Following.{Waits, IsNew, Looks}
+use Rattle.flow_changes.specs.Queue.{IsQueue, AddsPlaces, IsPairPlace, TakesPlace}
+use Rattle.flow_changes.specs.Following.{WaitsInQueue, IsYieldedAnew, Looks}
 use Rattle.flow_changes.specs.declared.queue.Queue.{Queue}
 
 -- the pair of a variable and an assignment that names it
@@ -85,7 +85,7 @@ reader_or_not (r ∷ rs) t m = go (cases_eq r.0.n t) (cases_eq r.1.n m) (reader_
 module _ (p : GtsParts) (plan : Plan) (n : ℕ) (a : Assign) (sa : Stands p.assigns.items n a) (values : List Value)
     (known : List Bool) (values' : List Value) (known' : List Bool) where
   only_new : (changed : Bool) → Applies p a values known values' known' changed → (m : ℕ) (v : Value)
-      → Knows values' known' m v → Knows values known m v ⊎ IsNew p n values known m v
+      → Knows values' known' m v → Knows values known m v ⊎ IsYieldedAnew p n values known m v
   only_new changed x m v k = elim (x.only m v k)
       [ inl h ↦ inl h | inr h ↦ inr (record { assign = a; stands = sa; is = h.0; passes = h.1; yields = h.2 }) ]
 
@@ -130,7 +130,7 @@ module _ (p : GtsParts) (plan : Plan) (n : ℕ) (a : Assign) (sa : Stands p.assi
       → Applies p a values known values' known' true
       → ((r : Reader) → IsOneOf plan.readers.pairs.items r → r.0.n ≡ a.target.n → IsOneOf run r)
       → length run ≤ length plan.readers.pairs.items
-      → AddsPlaces (length run) (IsPlaceOf plan.places.items run) work work'
+      → AddsPlaces (length run) (IsPairPlace plan.places.items run) work work'
       → Looks p plan n values known work values' known' work'
   looks_more work work' run is x all short adds = record {
     grows = x.grows;
@@ -164,7 +164,7 @@ module _ (p : GtsParts) (plan : Plan) (n : ℕ) (a : Assign) (sa : Stands p.assi
           old i w f k = elim (x.only i w k) [ inl h ↦ h | inr h ↦ absurd (f h.0) ]
 
       waits : (m : ℕ) (b : Assign) → Stands p.assigns.items m b → ReaderOf plan.readers.pairs.items a.target.n m
-          → Waits plan work' m
+          → WaitsInQueue plan work' m
       waits m b sb r =
           let q = stands_some plan.places.items m (let h = stands_within p.assigns.items m b sb in omega (arith, h, is.schedule.long)) in
           record {
@@ -180,7 +180,7 @@ module _ (p : GtsParts) (plan : Plan) (n : ℕ) (a : Assign) (sa : Stands p.assi
       again : (m : ℕ) (b : Assign) → Stands p.assigns.items m b
           → ((v : Value) → PassesConditions (Knows values known) (assign_of b).conditions
           → Yields (Knows values known) (out-Expr ℕ (assign_of b).value) v → Knows values' known' b.target.n v)
-          → Waits plan work' m ⊎ HasAll (Knows values' known') (assign_of b)
+          → WaitsInQueue plan work' m ⊎ HasAll (Knows values' known') (assign_of b)
       again m b sb has = elim (reader_or_not plan.readers.pairs.items a.target.n m) [
         | inl r ↦ inl (waits m b sb r)
         | inr f ↦ inr (stays b (λ d. f (reader_of p plan.readers.pairs.items is.readers a.target.n m b sb d)) has)
@@ -210,12 +210,12 @@ touches_total p t x values known values' known' sx m total =
 pub looks_sound : (p : GtsParts) (u : List Value) (n : ℕ) (values : List Value) (known : List Bool)
     (values' : List Value) (known' : List Bool) → IsTotal p values'
     → ((m : ℕ) (v : Value) → Knows values known m v → FactOf (net_of p) u m v)
-    → ((m : ℕ) (v : Value) → Knows values' known' m v → Knows values known m v ⊎ IsNew p n values known m v)
+    → ((m : ℕ) (v : Value) → Knows values' known' m v → Knows values known m v ⊎ IsYieldedAnew p n values known m v)
     → (m : ℕ) (v : Value) → Knows values' known' m v → FactOf (net_of p) u m v
 looks_sound p u n values known values' known' total sound only m v k =
     elim (only m v k) [ inl h ↦ sound m v h | inr h ↦ new h ]
   where
-    new : IsNew p n values known m v → FactOf (net_of p) u m v
+    new : IsYieldedAnew p n values known m v → FactOf (net_of p) u m v
     new h =
         let x = stands_some p.variables.items m (let w = stands_within values' m v k.value in omega (arith, w, total.long)) in
         let allowed : Allows (net_of p) m v =
@@ -231,7 +231,7 @@ looks_sound p u n values known values' known' total sound only m v k =
 -- what is settled once the next assignment was taken
 pub taken : (p : GtsParts) (plan : Plan) (work new : Queue) (place n : ℕ) → IsPlan p plan
     → Stands plan.order.items place n → TakesPlace place work new → (facts : ℕ → Value → Type 0) (m : ℕ) (a : Assign)
-    → Waits plan work m ⊎ HasAll facts (assign_of a) → (m ≡ n) ⊎ (Waits plan new m ⊎ HasAll facts (assign_of a))
+    → WaitsInQueue plan work m ⊎ HasAll facts (assign_of a) → (m ≡ n) ⊎ (WaitsInQueue plan new m ⊎ HasAll facts (assign_of a))
 taken p plan work new place n is st t facts m a (inr h) = inr (inr h)
 taken p plan work new place n is st t facts m a (inl w) = elim (t.others w.place w.waits) [
   | inl e ↦ inl (stands_one plan.order.items place m n

@@ -11,7 +11,7 @@ use Rattle.typed_expr.proofs.Facts.{yields_more, yields_named}
 use Rattle.ar_meaning.specs.Dependence.{Names}
 use Rattle.ar_meaning.specs.Facts.{PassesConditions, HasValue}
 use Rattle.ar_meaning.specs.Found.{IsAnswer}
-use Rattle.ar_meaning.specs.Reached.{Reaches}
+use Rattle.ar_meaning.specs.Reached.{YieldsWhereReached}
 use Rattle.ar_meaning.proofs.ByNumber as number
 use Rattle.ar_meaning.proofs.Dependence.{passes_named}
 use Rattle.ar_meaning.proofs.Found.{holds, fails}
@@ -60,12 +60,12 @@ module _ (p : GtsParts) (sound : IsSound p) (a : Assign) (one : IsOneOf p.assign
   met = passes_answer p t total a.when.items typed.conditions
 
   -- it is not reached
-  pub not_met : list_all (is_met t) a.when.items ≡ false → Reaches (Knows t known) (assign_of a) None
+  pub not_met : list_all (is_met t) a.when.items ≡ false → YieldsWhereReached (Knows t known) (assign_of a) None
   not_met e q = fails _ _ e met (passes_there q)
 
   -- it yields its value alone
   pub yields_value : list_all (is_met t) a.when.items ≡ true → (v : Value) → v ≡ value_in t a.value
-      → Reaches (Knows t known) (assign_of a) (Some (v ∷ []))
+      → YieldsWhereReached (Knows t known) (assign_of a) (Some (v ∷ []))
   yields_value e v is = (
     passes_back (holds _ _ e met),
     record {

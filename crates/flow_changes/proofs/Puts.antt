@@ -13,9 +13,9 @@ use Rattle.gts_core.specs.declared.system.Variable.{Variable}
 use Rattle.gts_core.specs.declared.system.Assign.{Assign}
 use Rattle.gts_core.specs.declared.system.GtsParts.{GtsParts}
 use Rattle.flow_changes.specs.Cone.{Knows}
-use Rattle.flow_changes.specs.Known.{Puts, Touches, Applies, IsBarred, unmarked}
+use Rattle.flow_changes.specs.Known.{PutsKnown, Touches, Applies, IsBarred, unmarked}
 use Rattle.value_changes.proofs.Picks.{set_same, set_other, keeps_same}
-use Rattle.ar_meaning.specs.Reached.{Reaches}
+use Rattle.ar_meaning.specs.Reached.{YieldsWhereReached}
 
 -- one mark more
 pub unmarked_set : (marks : List Bool) (n : ℕ) → Stands marks n false → unmarked (set marks n true) + 1 ≡ unmarked marks
@@ -29,7 +29,7 @@ touches_not d t values known = record
     { of_values = keeps_same (t ∷ []) values; of_marks = keeps_same (t ∷ []) known; held = λ v s. inl s }
 
 pub puts_nothing : (d : Domain) (t : ℕ) (set : List Value) (values : List Value) (known : List Bool)
-    → ((v : Value) → Contains set v → Knows values known t v × Holds d v) → Puts d t set values known values known false
+    → ((v : Value) → Contains set v → Knows values known t v × Holds d v) → PutsKnown d t set values known values known false
 puts_nothing d t set values known there =
     record {
       grows = λ n v k. k;
@@ -40,16 +40,16 @@ puts_nothing d t set values known there =
     }
 
 pub puts_same : (d : Domain) (t : ℕ) (v : Value) (values : List Value) (known : List Bool) → Stands known t true
-    → Stands values t v → Holds d v → Puts d t (v ∷ []) values known values known false
+    → Stands values t v → Holds d v → PutsKnown d t (v ∷ []) values known values known false
 puts_same d t v values known m s h = puts_nothing d t (v ∷ []) values known (λ w c. let e = contains-one v w c in (record { marked = m; value = subst (λ (z : Value). Stands values t z) e s }, subst (λ (z : Value). Holds d z) e h))
 
 -- the value that is known already, where it is compared with the new one
 module _ (d : Domain) (t : ℕ) (v old : Value) (values : List Value) (known : List Bool) (m : Stands known t true)
     (s : Stands values t old) where
   pub puts_again : (r : Option Bool) → Holds d v → IfSome r (λ changed. (changed ≡ false) × (old ≡ v))
-      → IfSome r (Puts d t (v ∷ []) values known values known)
+      → IfSome r (PutsKnown d t (v ∷ []) values known values known)
   puts_again (Some b) h k =
-      subst (λ (z : Bool). Puts d t (v ∷ []) values known values known z) (sym k.0)
+      subst (λ (z : Bool). PutsKnown d t (v ∷ []) values known values known z) (sym k.0)
       (puts_same d t v values known m (subst (λ (z : Value). Stands values t z) k.1 s) h)
   puts_again None h k = k
 
@@ -85,7 +85,7 @@ module _ (d : Domain) (t : ℕ) (v : Value) (values : List Value) (known : List 
       inr (e, (0, omega arith, b))
   only n w k (inr f) = inl (others n w f k)
 
-  pub puts_new : Puts d t (v ∷ []) values known (set values t v) (set known t true) true
+  pub puts_new : PutsKnown d t (v ∷ []) values known (set values t v) (set known t true) true
   puts_new = record {
     grows = λ n w k. back n w (not_known n w k) k;
     only = λ n w k. only n w k (cases_eq n t);
@@ -119,7 +119,7 @@ pub aims : (p : GtsParts) (a : Assign) → IsSound p → IsOneOf p.assigns.items
 aims p a s i = let r = s.assertions a i in record { variable = r.variable; stands = r.stands; is_flow = r.is; domain = (s.variables a.target.n r.variable r.stands).domain }
 
 module _ (p : GtsParts) (a : Assign) (values : List Value) (known : List Bool) where
-  pub applies_not : Reaches (Knows values known) (assign_of a) None → Applies p a values known values known false
+  pub applies_not : YieldsWhereReached (Knows values known) (assign_of a) None → Applies p a values known values known false
   applies_not g = record {
     grows = λ n v k. k;
     only = λ n v k. inl k;
@@ -129,8 +129,8 @@ module _ (p : GtsParts) (a : Assign) (values : List Value) (known : List Bool) w
   }
 
   pub applies_set : (d : Domain) (set : List Value) (values' : List Value) (known' : List Bool) (changed : Bool)
-      → Reaches (Knows values known) (assign_of a) (Some set)
-      → Puts d a.target.n set values known values' known' changed → Applies p a values known values' known' changed
+      → YieldsWhereReached (Knows values known) (assign_of a) (Some set)
+      → PutsKnown d a.target.n set values known values' known' changed → Applies p a values known values' known' changed
   applies_set d set values' known' changed g puts = record {
     grows = puts.grows;
     only = λ n v k. elim (puts.only n v k) [ inl h ↦ inl h | inr h ↦ inr (h.0, g.0, g.1.sound v h.1) ];

@@ -13,9 +13,9 @@ use Rattle.ar_base.specs.Lists.{Stands, IsOneOf}
 use Rattle.ar_base.specs.Sets.{Ascends}
 use Rattle.ar_base.proofs.Standing.{stands_within, stands_none, stands_get, stands_one, one_contains, contains_one}
 use Rattle.ar_base.proofs.Items.{all_stand}
-use Rattle.flow_changes.specs.Queue.{Rises}
+use Rattle.flow_changes.specs.Queue.{NeverFalls}
 
-pub rises_sorted : (xs : List ℕ) → IsSorted nat_cmp xs → Rises xs
+pub rises_sorted : (xs : List ℕ) → IsSorted nat_cmp xs → NeverFalls xs
 rises_sorted xs s i j a b l p q =
     let h = IsNonDecreasingBy-from_sort (λ (z : ℕ). z) xs s i j 0 l (stands_within xs j b q) in
     let x : get_or xs i 0 ≡ a = stands_one xs i (get_or xs i 0) a (stands_get xs i 0 (stands_within xs i a p)) p in

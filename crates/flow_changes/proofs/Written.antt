@@ -13,7 +13,7 @@ use Rattle.gts_core.specs.declared.system.Variable.{Variable}
 use Rattle.gts_core.specs.declared.system.GtsParts.{GtsParts}
 use Rattle.flow_propagate.specs.NewValues.{written, IsNewValue, IsRenewed}
 use Rattle.value_changes.proofs.Picks.{set_same, set_other, same_lists}
-use Rattle.flow_changes.specs.Known.{numbers_of}
+use Rattle.flow_changes.specs.Known.{changing_numbers}
 
 -- a variable that gets no new value keeps its own
 pub written_not : (t : List Value) (new : List (VarId × Value)) (n : ℕ) → (IsRenewed new n → ⊥)
@@ -24,21 +24,21 @@ written_not t (r ∷ more) n f =
     (λ h. f (record { pair = h.pair; is_one = one_rest r more h.pair h.is_one; is = h.is }))
     ∙ set_other t r.0.n n r.1 (λ e. f (record { pair = r; is_one = one_first r more; is = sym e }))
 
-number_one : (new : List (VarId × Value)) (r : VarId × Value) → IsOneOf new r → IsOneOf (numbers_of new) r.0.n
-number_one new r o = one_here (numbers_of new) o.place r.0.n
+number_one : (new : List (VarId × Value)) (r : VarId × Value) → IsOneOf new r → IsOneOf (changing_numbers new) r.0.n
+number_one new r o = one_here (changing_numbers new) o.place r.0.n
     (stands_map (λ (r : VarId × Value). r.0.n) new o.place r o.stands)
 
 -- a new value is the variable's
-pub written_at : (t : List Value) (new : List (VarId × Value)) (r : VarId × Value) → Ascends (numbers_of new)
+pub written_at : (t : List Value) (new : List (VarId × Value)) (r : VarId × Value) → Ascends (changing_numbers new)
     → IsOneOf new r → r.0.n < length t → Stands (written t new) r.0.n r.1
 written_at t [] r a o h = absurd (one_none r o)
 written_at t (q ∷ more) r a o h = elim (one_cases q more r o) [
   | inl e ↦ (
       let here : Stands (written (set t q.0.n q.1) more) r.0.n r.1 =
-      written_not (set t q.0.n q.1) more r.0.n (λ k. let l = ascends_first q.0.n (numbers_of more) a k.pair.0.n (number_one more k.pair k.is_one) in let i = ap (λ (z : VarId × Value). z.0.n) e in omega (arith, l, i, k.is))
+      written_not (set t q.0.n q.1) more r.0.n (λ k. let l = ascends_first q.0.n (changing_numbers more) a k.pair.0.n (number_one more k.pair k.is_one) in let i = ap (λ (z : VarId × Value). z.0.n) e in omega (arith, l, i, k.is))
       ∙ subst (λ (z : VarId × Value). Stands (set t z.0.n z.1) r.0.n r.1) (sym e) (set_same t r.0.n r.1 h) in
       here)
-  | inr k ↦ written_at (set t q.0.n q.1) more r (ascends_rest q.0.n (numbers_of more) a) k (let l = length-set t q.0.n q.1 in omega (arith, h, l))
+  | inr k ↦ written_at (set t q.0.n q.1) more r (ascends_rest q.0.n (changing_numbers more) a) k (let l = length-set t q.0.n q.1 in omega (arith, h, l))
 ]
 
 -- a total valuation stays one

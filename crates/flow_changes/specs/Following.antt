@@ -13,17 +13,17 @@ use Rattle.flow_propagate.specs.declared.plan.Plan.{Plan}
 use Rattle.flow_changes.specs.Cone.{Knows, HasAll}
 use Rattle.flow_changes.specs.Known.{unmarked}
 use Rattle.value_changes.specs.Picking.{AreWithin}
-use Rattle.flow_changes.specs.Queue.{IsQueue, WaitsAt, waiting}
+use Rattle.flow_changes.specs.Queue.{IsQueue, PlaceWaits, waiting_places}
 use Rattle.flow_changes.specs.declared.queue.Queue.{Queue}
 
 -- the assignment of this number waits
-pub record Waits (plan : Plan) (work : Queue) (m : ℕ) : Type 0 where
+pub record WaitsInQueue (plan : Plan) (work : Queue) (m : ℕ) : Type 0 where
   pub place : ℕ
   pub stands : Stands plan.places.items m place
-  pub waits : WaitsAt work place
+  pub waits : PlaceWaits work place
 
 -- what assignment n yields from what was known
-pub record IsNew (p : GtsParts) (n : ℕ) (values : List Value) (known : List Bool) (m : ℕ) (v : Value) : Type 0 where
+pub record IsYieldedAnew (p : GtsParts) (n : ℕ) (values : List Value) (known : List Bool) (m : ℕ) (v : Value) : Type 0 where
   pub assign : Assign
   pub stands : Stands p.assigns.items n assign
   pub is : m ≡ assign.target.n
@@ -32,19 +32,19 @@ pub record IsNew (p : GtsParts) (n : ℕ) (values : List Value) (known : List Bo
 
 -- what is left to do: for each value that may become known one look at each reader, and the looks that wait
 abbrev pub work_left : Plan → List Bool → Queue → ℕ
-work_left plan known work = (length plan.readers.pairs.items + 1) * unmarked known + waiting work
+work_left plan known work = (length plan.readers.pairs.items + 1) * unmarked known + waiting_places work
 
 -- assignment n was looked at
 pub record Looks (p : GtsParts) (plan : Plan) (n : ℕ) (values : List Value) (known : List Bool) (work : Queue)
     (values_then : List Value) (known_then : List Bool) (work_then : Queue) : Type 0 where
   pub grows : (m : ℕ) (v : Value) → Knows values known m v → Knows values_then known_then m v
   pub only : (m : ℕ) (v : Value) → Knows values_then known_then m v
-      → Knows values known m v ⊎ IsNew p n values known m v
+      → Knows values known m v ⊎ IsYieldedAnew p n values known m v
   pub is : IsQueue work_then
   pub same : work_then.list.items ≡ work.list.items
   pub settled : (m : ℕ) (a : Assign) → Stands p.assigns.items m a
-      → (m ≡ n) ⊎ (Waits plan work m ⊎ HasAll (Knows values known) (assign_of a))
-      → Waits plan work_then m ⊎ HasAll (Knows values_then known_then) (assign_of a)
+      → (m ≡ n) ⊎ (WaitsInQueue plan work m ⊎ HasAll (Knows values known) (assign_of a))
+      → WaitsInQueue plan work_then m ⊎ HasAll (Knows values_then known_then) (assign_of a)
   pub less : work_left plan known_then work_then ≤ work_left plan known work
 
 -- the list has the places of the assignments to the members, and no others

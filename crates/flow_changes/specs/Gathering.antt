@@ -11,13 +11,13 @@ use Rattle.flow_propagate.specs.Plan.{Reader}
 use Rattle.flow_propagate.specs.NewValues.{IsRenewed}
 use Rattle.flow_changes.specs.Cone.{IsFlowAt}
 use Rattle.flow_changes.specs.Known.{unmarked}
-use Rattle.flow_changes.specs.Queue.{IsPlaceOf}
+use Rattle.flow_changes.specs.Queue.{IsPairPlace}
 
 -- the list got the places of the assignments of these pairs
 pub record GathersPlaces (places : List ℕ) (pairs : List Reader) (old new : List ℕ) : Type 0 where
   pub grows : (q : ℕ) → IsOneOf old q → IsOneOf new q
-  pub only : (q : ℕ) → IsOneOf new q → IsOneOf old q ⊎ IsPlaceOf places pairs q
-  pub all : (q : ℕ) → IsPlaceOf places pairs q → IsOneOf new q
+  pub only : (q : ℕ) → IsOneOf new q → IsOneOf old q ⊎ IsPairPlace places pairs q
+  pub all : (q : ℕ) → IsPairPlace places pairs q → IsOneOf new q
 
 -- the place of an assignment to one of the members
 pub record IsPlaceTo (givers : List Reader) (places members : List ℕ) (q : ℕ) : Type 0 where

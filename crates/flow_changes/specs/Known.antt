@@ -27,7 +27,7 @@ abbrev pub MarksEach : List Bool → (VarId → Type 0) → Type 0
 MarksEach marks P = (x : VarId) → P x → Stands marks x.n true
 
 -- these values of a variable are known, and none else: its value may have become known, from the domain
-pub record Puts (domain : Domain) (target : ℕ) (set : List Value) (values_then : List Value) (known_then : List Bool)
+pub record PutsKnown (domain : Domain) (target : ℕ) (set : List Value) (values_then : List Value) (known_then : List Bool)
     (values : List Value) (known : List Bool) (changed : Bool) : Type 0 where
   pub grows : (n : ℕ) (v : Value) → Knows values_then known_then n v → Knows values known n v
   pub only : (n : ℕ) (v : Value) → Knows values known n v
@@ -66,8 +66,8 @@ pub record Applies (p : GtsParts) (a : Assign) (values_then : List Value) (known
   pub less : changed ≡ true → unmarked known < unmarked known_then
 
 -- the numbers of the variables that get new values
-abbrev pub numbers_of : List (VarId × Value) → List ℕ
-numbers_of new = map (λ (r : VarId × Value). r.0.n) new
+abbrev pub changing_numbers : List (VarId × Value) → List ℕ
+changing_numbers new = map (λ (r : VarId × Value). r.0.n) new
 
 -- the members that are not known have their declared values, and all else is as before
 pub record Resets (p : GtsParts) (members : List ℕ) (known : List Bool) (old new : List Value) : Type 0 where

@@ -16,8 +16,8 @@ use Rattle.flow_changes.specs.declared.present.Present.{Present}
 use Rattle.value_changes.specs.declared.changes.Changes.{Changes}
 
 -- the total valuation
-abbrev pub values_of : Present → List Value
-values_of it = it.determined.values.values.items
+abbrev pub present_values : Present → List Value
+present_values it = it.determined.values.values.items
 
 -- which of its values are facts
 abbrev pub known_of : Present → List Bool
@@ -25,14 +25,14 @@ known_of it = it.determined.known.items
 
 -- a total valuation that its own state determines with its facts, and for each variable a mark that is unset
 pub record IsPresent (p : GtsParts) (it : Present) : Type 0 where
-  pub determined : IsDetermined p (values_of it) (known_of it)
+  pub determined : IsDetermined p (present_values it) (known_of it)
   pub long : length it.marks.items ≡ length p.variables.items
   pub unset : (n : ℕ) → Stands it.marks.items n true → ⊥
 
 -- it is what this state determines
 pub record IsPresentBy (p : GtsParts) (state : List Value) (it : Present) : Type 0 where
   pub is : IsPresent p it
-  pub determined : IsDeterminedBy p state (values_of it) (known_of it)
+  pub determined : IsDeterminedBy p state (present_values it) (known_of it)
 
 -- the fault is the one of this state; want of memory says nothing
 abbrev pub IsFaultOf : GtsParts → List Value → PropagateFault → Type 0

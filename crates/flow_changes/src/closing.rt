@@ -28,46 +28,6 @@ use gts_core::GtsParts;
 use std::alloc::Global;
 use std::collections::BTreeSet;
 
-// Makes what an assignment yields known; where it is new, the assignments that name the target wait again. False where the
-// quick way fails.
-fn look_at(
-    alloc: Global,
-    parts: &GtsParts,
-    plan: &Plan,
-    n: u32,
-    values: &mut Vec<Value>,
-    known: &mut Vec<bool>,
-    work: &mut Queue,
-) -> Result<bool, Memory>
-    requires sound { IsSound parts.now }
-    requires plan { IsPlan parts.now plan.now }
-    requires below { n < length parts.now.assigns.items }
-    requires total { IsTotal parts.now values.old.items }
-    requires marked { length known.old.items ≡ length parts.now.variables.items }
-    requires queue { IsQueue work.old }
-    requires listed { (a : Assigns) (r : Reader) (q : ℕ) → Stands parts.now.assigns.items n a
-        → IsOneOf plan.now.readers.pairs.items r → r.0.n ≡ a.target.n
-        → Stands plan.now.places.items r.1.n q → IsOneOf work.old.list.items q }
-    ensures touches { (a : Assigns) (x : Variable) → Stands parts.now.assigns.items n a
-        → Stands parts.now.variables.items a.target.n x
-        → Touches x.domain a.target.n values.old.items known.old.items values.new.items
-        known.new.items }
-    ensures looks { IfOk result (λ goes. goes ≡ true
-        → Looks parts.now plan.now n values.old.items known.old.items work.old values.new.items
-        known.new.items work.new) }
-{
-    let assign = &parts.assigns[n as usize];
-    let Some(changed) = apply(alloc, parts, assign, values, known)? else {
-        return Ok(false);
-    };
-    if !changed {
-        return Ok(true);
-    }
-    let run = pairs_of(&plan.readers, assign.target.n);
-    add_all(run, &plan.places, work)?;
-    Ok(true)
-}
-
 // Gathers the facts of the members, and gives the places of the assignments to them; none where the quick way fails.
 pub(crate) fn close(
     alloc: Global,
@@ -107,6 +67,46 @@ pub(crate) fn close(
         }
     }
     Ok(Some(work.list))
+}
+
+// Makes what an assignment yields known; where it is new, the assignments that name the target wait again. False where the
+// quick way fails.
+fn look_at(
+    alloc: Global,
+    parts: &GtsParts,
+    plan: &Plan,
+    n: u32,
+    values: &mut Vec<Value>,
+    known: &mut Vec<bool>,
+    work: &mut Queue,
+) -> Result<bool, Memory>
+    requires sound { IsSound parts.now }
+    requires plan { IsPlan parts.now plan.now }
+    requires below { n < length parts.now.assigns.items }
+    requires total { IsTotal parts.now values.old.items }
+    requires marked { length known.old.items ≡ length parts.now.variables.items }
+    requires queue { IsQueue work.old }
+    requires listed { (a : Assigns) (r : Reader) (q : ℕ) → Stands parts.now.assigns.items n a
+        → IsOneOf plan.now.readers.pairs.items r → r.0.n ≡ a.target.n
+        → Stands plan.now.places.items r.1.n q → IsOneOf work.old.list.items q }
+    ensures touches { (a : Assigns) (x : Variable) → Stands parts.now.assigns.items n a
+        → Stands parts.now.variables.items a.target.n x
+        → Touches x.domain a.target.n values.old.items known.old.items values.new.items
+        known.new.items }
+    ensures looks { IfOk result (λ goes. goes ≡ true
+        → Looks parts.now plan.now n values.old.items known.old.items work.old values.new.items
+        known.new.items work.new) }
+{
+    let assign = &parts.assigns[n as usize];
+    let Some(changed) = apply(alloc, parts, assign, values, known)? else {
+        return Ok(false);
+    };
+    if !changed {
+        return Ok(true);
+    }
+    let run = pairs_of(&plan.readers, assign.target.n);
+    add_all(run, &plan.places, work)?;
+    Ok(true)
 }
 
 // All assignments to the members wait.

@@ -6,7 +6,7 @@ ghost use Rattle.gts_core.specs.Sound.{IsSound};
 ghost use Rattle.flow_propagate.specs.Plan.{AreReaders, Reader, plain_pair};
 ghost use Rattle.flow_propagate.specs.NewValues.{AreNewValues, IsRenewed};
 ghost use Rattle.flow_changes.specs.Cone.{IsCone};
-ghost use Rattle.flow_changes.specs.Known.{numbers_of};
+ghost use Rattle.flow_changes.specs.Known.{changing_numbers};
 ghost use Rattle.value_changes.specs.Picking.{AreWithin};
 ghost use Rattle.flow_propagate.specs.Marks.{AreMarked};
 ghost use Rattle.flow_changes.specs.Gathering.{Sees, IsTargetOf, IsFollowed};
@@ -99,7 +99,7 @@ fn see_new(
     marks: &mut Vec<bool>,
     found: &mut Vec<u32>,
 ) -> Result<(), Memory>
-    requires within { AreWithin (numbers_of new.now) marks.old.items }
+    requires within { AreWithin (changing_numbers new.now) marks.old.items }
     requires marking { AreMarked marks.old.items found.old.items }
     ensures long { length marks.new.items ≡ length marks.old.items }
     ensures marking { AreMarked marks.new.items found.new.items }

@@ -3,7 +3,7 @@
 ghost use Rattle.std.specs.Prelude.{◌≡◌, ◌<◌, ℕ, length, IfOk};
 ghost use Rattle.ar_base.specs.Lists.{IsOneOf};
 ghost use Rattle.flow_propagate.specs.Plan.{Reader};
-ghost use Rattle.flow_changes.specs.Queue.{Rises};
+ghost use Rattle.flow_changes.specs.Queue.{NeverFalls};
 ghost use Rattle.flow_changes.specs.Gathering.{GathersPlaces, ArePlacesTo};
 
 use ar_base::{AssignId, Memory, VarId};
@@ -18,7 +18,7 @@ pub(crate) fn places_to(
     members: &[u32],
 ) -> Result<Vec<usize>, Memory>
     requires { (r : Reader) → IsOneOf givers.now.pairs.items r → r.1.n < length places.now }
-    ensures rises { IfOk result (λ list. Rises list.items) }
+    ensures rises { IfOk result (λ list. NeverFalls list.items) }
     ensures are { IfOk result (λ list.
         ArePlacesTo givers.now.pairs.items places.now members.now list.items) }
 {

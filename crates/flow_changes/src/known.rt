@@ -3,13 +3,13 @@
 ghost use Rattle.std.specs.Prelude.{◌≡◌, [], map, IfOk};
 ghost use Rattle.domains.specs.declared.Value.{Value};
 ghost use Rattle.typed_expr.specs.Kinds.{kind_of};
-ghost use Rattle.typed_expr.specs.Rows.{first_of};
+ghost use Rattle.typed_expr.specs.Rows.{first_of_row};
 ghost use Rattle.ar_meaning.specs.Facts.{PassesConditions};
 ghost use Rattle.ar_meaning.specs.Found.{IsAnswer};
-ghost use Rattle.ar_meaning.specs.Reached.{Reaches};
+ghost use Rattle.ar_meaning.specs.Reached.{YieldsWhereReached};
 ghost use Rattle.gts_core.specs.View.{assign_of, condition_of};
 ghost use Rattle.flow_changes.specs.Cone.{Knows};
-ghost use Rattle.flow_propagate.specs.Determined.{known_at};
+ghost use Rattle.flow_propagate.specs.Determined.{marked_value_at};
 ghost use Rattle.value_changes.specs.Restoring.{mark_at};
 
 use ar_base::{Memory, VarId};
@@ -28,11 +28,11 @@ pub(crate) struct Known<'a> {
 }
 
 impl Env<VarId> for Known<'_> {
-    ghost value_at = { λ e x. first_of (known_at e.values.now e.known.now x.n) };
+    ghost value_at = { λ e x. first_of_row (marked_value_at e.values.now e.known.now x.n) };
 
-    ghost facts_at = { λ e x. known_at e.values.now e.known.now x.n };
+    ghost facts_at = { λ e x. marked_value_at e.values.now e.known.now x.n };
 
-    ghost kind_at = { λ e x. kind_of (first_of (known_at e.values.now e.known.now x.n)) };
+    ghost kind_at = { λ e x. kind_of (first_of_row (marked_value_at e.values.now e.known.now x.n)) };
 
     fn value(&self, v: &VarId) -> Value {
         first_of(self.facts(v))
@@ -85,7 +85,7 @@ pub(crate) fn yielded(
     assign: &Assign,
     known: &Known,
 ) -> Result<Option<ValueSet>, Memory>
-    ensures { IfOk result (λ o. Reaches (Knows known.now.values.now known.now.known.now)
+    ensures { IfOk result (λ o. YieldsWhereReached (Knows known.now.values.now known.now.known.now)
         (assign_of assign.now) o) }
 {
     let reaches = reached(alloc, &assign.when, known)?;

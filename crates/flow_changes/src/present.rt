@@ -7,8 +7,8 @@ ghost use Rattle.gts_core.specs.Sound.{IsSound};
 ghost use Rattle.flow_propagate.specs.Answers.{IsState};
 ghost use Rattle.flow_propagate.specs.NewValues.{AreNewValues, written};
 ghost use Rattle.flow_propagate.specs.Plan.{IsPlan};
-ghost use Rattle.value_changes.specs.Restoring.{restored, turned};
-ghost use Rattle.flow_changes.specs.Present.{values_of, known_of, IsPresent, Presents, IsFaultOf, Propagates};
+ghost use Rattle.value_changes.specs.Restoring.{restored, marks_turned};
+ghost use Rattle.flow_changes.specs.Present.{present_values, known_of, IsPresent, Presents, IsFaultOf, Propagates};
 
 use crate::cone::cone;
 use crate::trying::attempt;
@@ -71,10 +71,10 @@ pub fn propagate_from(
     requires present { IsPresent gts.now present.old }
     requires new { AreNewValues gts.now new.now }
     ensures present { IsPresent gts.now present.new }
-    ensures ok { IfOk result (Propagates gts.now (values_of present.old) (known_of present.old)
-        new.now (values_of present.new) (known_of present.new)) }
-    ensures fault { IfErr result (IsFaultOf gts.now (written (values_of present.old) new.now)) }
-    ensures err { OnErr result ((values_of present.new ≡ values_of present.old)
+    ensures ok { IfOk result (Propagates gts.now (present_values present.old) (known_of present.old)
+        new.now (present_values present.new) (known_of present.new)) }
+    ensures fault { IfErr result (IsFaultOf gts.now (written (present_values present.old) new.now)) }
+    ensures err { OnErr result ((present_values present.new ≡ present_values present.old)
         × (known_of present.new ≡ known_of present.old)) }
 {
     let parts = gts.parts();
@@ -90,10 +90,10 @@ pub fn propagate_from(
 pub fn restore(parts: &GtsParts, present: &mut Present, changes: &Changes)
     requires sound { IsSound parts.now }
     requires long { length changes.now.variables.items ≡ length changes.now.old.items }
-    ensures values { values_of present.new
-        ≡ restored parts.now (values_of present.old) changes.now.variables.items
+    ensures values { present_values present.new
+        ≡ restored parts.now (present_values present.old) changes.now.variables.items
         changes.now.old.items }
-    ensures known { known_of present.new ≡ turned (known_of present.old) changes.now.turned.items }
+    ensures known { known_of present.new ≡ marks_turned (known_of present.old) changes.now.turned.items }
     ensures marks { present.new.marks.items ≡ present.old.marks.items }
 {
     write_back(

@@ -9,7 +9,7 @@ ghost use Rattle.gts_core.specs.Readings.{IsTotal};
 ghost use Rattle.gts_core.specs.Sound.{IsSound};
 ghost use Rattle.gts_core.specs.View.{assign_of};
 ghost use Rattle.value_changes.specs.Picking.{KeepsOthers};
-ghost use Rattle.flow_changes.specs.Known.{Puts, Touches, Applies, IsBarred, IsSetBarred};
+ghost use Rattle.flow_changes.specs.Known.{PutsKnown, Touches, Applies, IsBarred, IsSetBarred};
 
 use crate::known::{Known, yielded};
 use crate::marked::names_marked;
@@ -17,6 +17,32 @@ use ar_base::Memory;
 use domains::{Domain, Value};
 use gts_core::{Assign, GtsParts, are_met, value_in};
 use std::alloc::Global;
+
+// Makes what an assignment yields known for its target, and answers whether it was not; none where it has more than one value,
+// one outside the target's domain, or another than the known one.
+pub(crate) fn apply(
+    alloc: Global,
+    parts: &GtsParts,
+    assign: &Assign,
+    values: &mut Vec<Value>,
+    known: &mut Vec<bool>,
+) -> Result<Option<bool>, Memory>
+    requires sound { IsSound parts.now }
+    requires one { IsOneOf parts.now.assigns.items assign.now }
+    requires total { IsTotal parts.now values.old.items }
+    requires marked { length known.old.items ≡ length parts.now.variables.items }
+    ensures touches { (x : Variable) → Stands parts.now.variables.items assign.now.target.n x
+        → Touches x.domain assign.now.target.n values.old.items known.old.items values.new.items
+        known.new.items }
+    ensures applies { IfOk result (λ o.
+        IfSome o (Applies parts.now assign.now values.old.items known.old.items values.new.items
+        known.new.items)) }
+{
+    if names_marked(assign, known) {
+        return Ok(apply_known(parts, assign, values, known));
+    }
+    apply_set(alloc, parts, assign, values, known)
+}
 
 // Makes a value known, and answers whether it was not; none where the domain lacks it or another value is known.
 fn put(
@@ -31,7 +57,7 @@ fn put(
     requires marked { target < length known.old.items }
     ensures touches { Touches domain.now target values.old.items known.old.items values.new.items
         known.new.items }
-    ensures puts { IfSome result (Puts domain.now target (v ∷ []) values.old.items known.old.items
+    ensures puts { IfSome result (PutsKnown domain.now target (v ∷ []) values.old.items known.old.items
         values.new.items known.new.items) }
     ensures none { IfNone result (IsBarred domain.now target v values.old.items known.old.items) }
 {
@@ -64,7 +90,7 @@ fn put_all(
     requires marked { target < length known.old.items }
     ensures touches { Touches domain.now target values.old.items known.old.items values.new.items
         known.new.items }
-    ensures puts { IfSome result (Puts domain.now target set.now values.old.items known.old.items
+    ensures puts { IfSome result (PutsKnown domain.now target set.now values.old.items known.old.items
         values.new.items known.new.items) }
     ensures none { IfNone result (IsSetBarred domain.now target set.now values.old.items
         known.old.items) }
@@ -76,32 +102,6 @@ fn put_all(
         return None;
     }
     put(domain, target, set[0], values, known)
-}
-
-// Makes what an assignment yields known for its target, and answers whether it was not; none where it has more than one value,
-// one outside the target's domain, or another than the known one.
-pub(crate) fn apply(
-    alloc: Global,
-    parts: &GtsParts,
-    assign: &Assign,
-    values: &mut Vec<Value>,
-    known: &mut Vec<bool>,
-) -> Result<Option<bool>, Memory>
-    requires sound { IsSound parts.now }
-    requires one { IsOneOf parts.now.assigns.items assign.now }
-    requires total { IsTotal parts.now values.old.items }
-    requires marked { length known.old.items ≡ length parts.now.variables.items }
-    ensures touches { (x : Variable) → Stands parts.now.variables.items assign.now.target.n x
-        → Touches x.domain assign.now.target.n values.old.items known.old.items values.new.items
-        known.new.items }
-    ensures applies { IfOk result (λ o.
-        IfSome o (Applies parts.now assign.now values.old.items known.old.items values.new.items
-        known.new.items)) }
-{
-    if names_marked(assign, known) {
-        return Ok(apply_known(parts, assign, values, known));
-    }
-    apply_set(alloc, parts, assign, values, known)
 }
 
 // The same where every variable that the assignment names is known: it yields one value, which takes no memory.

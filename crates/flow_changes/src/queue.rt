@@ -4,8 +4,8 @@ ghost use Rattle.std.specs.Prelude.{◌≡◌, ◌≢◌, ◌+◌, ◌<◌, ◌�
 ghost use Rattle.std.specs.BTreeSet.{btree_set_len};
 ghost use Rattle.ar_base.specs.Lists.{IsOneOf, Stands};
 ghost use Rattle.flow_propagate.specs.Plan.{Reader};
-ghost use Rattle.flow_propagate.specs.Closing.{IsAgain};
-ghost use Rattle.flow_changes.specs.Queue.{WaitsAt, IsQueue, TakesPlace, AddsPlaces, IsPlaceOf};
+ghost use Rattle.flow_propagate.specs.Closing.{IsAddedAgain};
+ghost use Rattle.flow_changes.specs.Queue.{PlaceWaits, IsQueue, TakesPlace, AddsPlaces, IsPairPlace};
 
 use ar_base::{AssignId, Memory, VarId};
 use std::collections::BTreeSet;
@@ -27,7 +27,7 @@ pub(crate) struct Queue {
 pub(crate) fn take(work: &mut Queue) -> Option<usize>
     requires { IsQueue work.old }
     ensures same { work.new.list.items ≡ work.old.list.items }
-    ensures takes { MatchOption result ((q : ℕ) → WaitsAt work.old q → ⊥)
+    ensures takes { MatchOption result ((q : ℕ) → PlaceWaits work.old q → ⊥)
         (λ q. TakesPlace q work.old work.new) }
 {
     if let Some(place) = take_again(&mut work.again) {
@@ -43,12 +43,12 @@ pub(crate) fn take(work: &mut Queue) -> Option<usize>
 
 // Takes the least of the places that were added again.
 fn take_again(again: &mut BTreeSet<usize>) -> Option<usize>
-    ensures some { IfSome result (λ place. IsAgain again.old place) }
-    ensures rest { IfSome result (λ place. (p : ℕ) → IsAgain again.new p
-        ↔ (IsAgain again.old p × (p ≢ place))) }
+    ensures some { IfSome result (λ place. IsAddedAgain again.old place) }
+    ensures rest { IfSome result (λ place. (p : ℕ) → IsAddedAgain again.new p
+        ↔ (IsAddedAgain again.old p × (p ≢ place))) }
     ensures less { IfSome result (λ _. btree_set_len again.old ≡ btree_set_len again.new + 1) }
-    ensures none { IfNone result ((p : ℕ) → IsAgain again.old p → ⊥) }
-    ensures still { IfNone result ((p : ℕ) → IsAgain again.new p → ⊥) }
+    ensures none { IfNone result ((p : ℕ) → IsAddedAgain again.old p → ⊥) }
+    ensures still { IfNone result ((p : ℕ) → IsAddedAgain again.new p → ⊥) }
     ensures few { IfNone result (btree_set_len again.old ≡ btree_set_len again.new) }
 {
     again.pop_first()
@@ -68,8 +68,8 @@ fn add(place: usize, work: &mut Queue) -> Result<(), Memory>
 
 // Adds a place to those that were added again.
 fn add_again(again: &mut BTreeSet<usize>, place: usize) -> Result<(), Memory>
-    ensures all { OnOk result ((p : ℕ) → IsAgain again.new p
-        ↔ (IsAgain again.old p ⊎ (p ≡ place))) }
+    ensures all { OnOk result ((p : ℕ) → IsAddedAgain again.new p
+        ↔ (IsAddedAgain again.old p ⊎ (p ≡ place))) }
     ensures few { OnOk result (btree_set_len again.new ≤ btree_set_len again.old + 1) }
 {
     again.insert(place)?;
@@ -86,7 +86,7 @@ pub(crate) fn add_all(
     requires within { (r : Reader) → IsOneOf pairs.now r → r.1.n < length places.now }
     requires one { (r : Reader) (q : ℕ) → IsOneOf pairs.now r → Stands places.now r.1.n q
         → IsOneOf work.old.list.items q }
-    ensures { IfOk result (λ _. AddsPlaces (length pairs.now) (IsPlaceOf places.now pairs.now)
+    ensures { IfOk result (λ _. AddsPlaces (length pairs.now) (IsPairPlace places.now pairs.now)
         work.old work.new) }
 {
     for (_, assign) in pairs {

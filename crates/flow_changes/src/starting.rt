@@ -6,7 +6,7 @@ ghost use Rattle.ar_base.specs.Numbers.{VarId as VarIds};
 ghost use Rattle.domains.specs.declared.Value.{Value as Values};
 ghost use Rattle.flow_propagate.specs.NewValues.{written};
 ghost use Rattle.value_changes.specs.Picking.{AreSet, AreWithin};
-ghost use Rattle.flow_changes.specs.Known.{numbers_of, Resets};
+ghost use Rattle.flow_changes.specs.Known.{changing_numbers, Resets};
 
 use ar_base::VarId;
 use domains::Value;
@@ -14,7 +14,7 @@ use gts_core::GtsParts;
 
 // Writes new values.
 pub(crate) fn write_new(new: &[(VarId, Value)], values: &mut Vec<Value>)
-    requires { AreWithin (numbers_of new.now) values.old.items }
+    requires { AreWithin (changing_numbers new.now) values.old.items }
     ensures { values.new.items ≡ written values.old.items new.now }
 {
     for (variable, v) in new {
@@ -24,8 +24,8 @@ pub(crate) fn write_new(new: &[(VarId, Value)], values: &mut Vec<Value>)
 
 // Marks the variables that get new values.
 pub(crate) fn mark_new(new: &[(VarId, Value)], known: &mut Vec<bool>)
-    requires { AreWithin (numbers_of new.now) known.old.items }
-    ensures { AreSet true (numbers_of new.now) known.old.items known.new.items }
+    requires { AreWithin (changing_numbers new.now) known.old.items }
+    ensures { AreSet true (changing_numbers new.now) known.old.items known.new.items }
 {
     for (variable, _) in new {
         known[variable.n as usize] = true;

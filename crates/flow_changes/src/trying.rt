@@ -28,6 +28,45 @@ struct Snapshot {
     known: Vec<bool>,
 }
 
+// The same; where it fails all is as it was.
+pub(crate) fn attempt(
+    alloc: Global,
+    parts: &GtsParts,
+    plan: &Plan,
+    members: &[u32],
+    new: &[(VarId, Value)],
+    determined: &mut Determined,
+) -> Result<Option<Changes>, Memory>
+    requires sound { IsSound parts.now }
+    requires plan { IsPlan parts.now plan.now }
+    requires new { AreNewValues parts.now new.now }
+    requires cone { IsCone parts.now new.now members.now }
+    requires determined { IsDetermined parts.now determined.old.values.values.items
+        determined.old.known.items }
+    ensures some { IfOk result (λ o. IfSome o
+        (Propagates parts.now determined.old.values.values.items determined.old.known.items new.now
+        determined.new.values.values.items determined.new.known.items)) }
+    ensures none { IfOk result (λ o. o ≡ None
+        → (determined.new.values.values.items ≡ determined.old.values.values.items)
+        × (determined.new.known.items ≡ determined.old.known.items)) }
+    ensures err { OnErr result ((determined.new.values.values.items
+        ≡ determined.old.values.values.items)
+        × (determined.new.known.items ≡ determined.old.known.items)) }
+{
+    let snapshot = snapshot_of(alloc, members, determined)?;
+    match go(alloc, parts, plan, members, &snapshot, new, determined) {
+        Ok(Some(changes)) => Ok(Some(changes)),
+        Ok(None) => {
+            back(members, &snapshot, determined);
+            Ok(None)
+        }
+        Err(memory) => {
+            back(members, &snapshot, determined);
+            Err(memory)
+        }
+    }
+}
+
 // What the members have.
 fn snapshot_of(alloc: Global, members: &[u32], determined: &Determined) -> Result<Snapshot, Memory>
     requires values { AreWithin members.now determined.now.values.values.items }
@@ -107,43 +146,4 @@ fn go(
         &determined.known,
     )?;
     Ok(Some(changes))
-}
-
-// The same; where it fails all is as it was.
-pub(crate) fn attempt(
-    alloc: Global,
-    parts: &GtsParts,
-    plan: &Plan,
-    members: &[u32],
-    new: &[(VarId, Value)],
-    determined: &mut Determined,
-) -> Result<Option<Changes>, Memory>
-    requires sound { IsSound parts.now }
-    requires plan { IsPlan parts.now plan.now }
-    requires new { AreNewValues parts.now new.now }
-    requires cone { IsCone parts.now new.now members.now }
-    requires determined { IsDetermined parts.now determined.old.values.values.items
-        determined.old.known.items }
-    ensures some { IfOk result (λ o. IfSome o
-        (Propagates parts.now determined.old.values.values.items determined.old.known.items new.now
-        determined.new.values.values.items determined.new.known.items)) }
-    ensures none { IfOk result (λ o. o ≡ None
-        → (determined.new.values.values.items ≡ determined.old.values.values.items)
-        × (determined.new.known.items ≡ determined.old.known.items)) }
-    ensures err { OnErr result ((determined.new.values.values.items
-        ≡ determined.old.values.values.items)
-        × (determined.new.known.items ≡ determined.old.known.items)) }
-{
-    let snapshot = snapshot_of(alloc, members, determined)?;
-    match go(alloc, parts, plan, members, &snapshot, new, determined) {
-        Ok(Some(changes)) => Ok(Some(changes)),
-        Ok(None) => {
-            back(members, &snapshot, determined);
-            Ok(None)
-        }
-        Err(memory) => {
-            back(members, &snapshot, determined);
-            Err(memory)
-        }
-    }
 }

@@ -4,7 +4,7 @@ ghost use Rattle.std.specs.Prelude.{◌≡◌, ◌<◌, IfOk, IfErr, OnErr};
 ghost use Rattle.flow_propagate.specs.Determined.{IsDetermined};
 ghost use Rattle.flow_propagate.specs.NewValues.{AreNewValues, written};
 ghost use Rattle.flow_propagate.specs.Plan.{IsPlan};
-ghost use Rattle.flow_changes.specs.Known.{numbers_of};
+ghost use Rattle.flow_changes.specs.Known.{changing_numbers};
 ghost use Rattle.value_changes.specs.Picking.{AreWithin};
 ghost use Rattle.flow_changes.specs.Present.{IsFaultOf, Propagates};
 
@@ -56,7 +56,7 @@ pub(crate) fn whole(
 
 // The values with the new ones among them.
 fn renewed(alloc: Global, values: &[Value], new: &[(VarId, Value)]) -> Result<Valuation, Memory>
-    requires { AreWithin (numbers_of new.now) values.now }
+    requires { AreWithin (changing_numbers new.now) values.now }
     ensures { IfOk result (λ state. state.values.items ≡ written values.now new.now) }
 {
     let mut values = Vec::from_slice(alloc, values)?;

@@ -15,13 +15,13 @@ use Rattle.gts_core.specs.declared.system.Variable.{Variable}
 use Rattle.gts_core.specs.declared.system.Assign.{Assign}
 use Rattle.gts_core.specs.declared.system.GtsParts.{GtsParts}
 use Rattle.typed_expr.specs.Rows.{Rows}
-use Rattle.flow_propagate.specs.Table.{Holds, PutsAll, Moves, Reaches}
-use Rattle.flow_propagate.specs.Closing.{Applies}
+use Rattle.flow_propagate.specs.Table.{TableHolds, PutsAll, Moves, YieldsFromTable}
+use Rattle.flow_propagate.specs.Closing.{AppliesAssignment}
 use Rattle.flow_propagate.proofs.Missing.{missing_less}
 
 module _ (p : GtsParts) (a : Assign) (one : IsOneOf p.assigns.items a) (x : Variable)
     (stands : Stands p.variables.items a.target.n x) (is_domain : domains.IsDomain x.domain)
-    (old new : Rows) (set : List Value) (changed : Bool) (r : Reaches old (assign_of a) (Some set))
+    (old new : Rows) (set : List Value) (changed : Bool) (r : YieldsFromTable old (assign_of a) (Some set))
     (m : PutsAll x.domain a.target.n set old new changed) where
   moves : Moves (net_of p) old new
   moves = record {
@@ -36,12 +36,12 @@ module _ (p : GtsParts) (a : Assign) (one : IsOneOf p.assigns.items a) (x : Vari
           subst (λ (z : ℕ). FactOf (net_of p) t z w) (sym k.0)
           (closed (net_of p).assertions (Allows (net_of p)) (HasStateValue (net_of p) t) (assign_of a) w
           (record { place = one.place; stands = stands_map assign_of p.assigns.items one.place a one.stands })
-          (passes_more ℕ (Holds old) (FactOf (net_of p) t) sound r.0)
-          (yields_more ℕ (Holds old) (FactOf (net_of p) t) sound (r.1.sound w k.1)) allowed))
+          (passes_more ℕ (TableHolds old) (FactOf (net_of p) t) sound r.0)
+          (yields_more ℕ (TableHolds old) (FactOf (net_of p) t) sound (r.1.sound w k.1)) allowed))
     ];
   }
 
-  pub applies : Applies p a old new changed
+  pub applies : AppliesAssignment p a old new changed
   applies = record {
     moves = moves;
     others = λ n v h ne. elim (m.only n v h) [ inl k ↦ k | inr k ↦ absurd (ne k.0) ];
@@ -63,7 +63,7 @@ pub moves_then : (p : GtsParts) (old mid new : Rows) → Moves (net_of p) old mi
 moves_then p old mid new x y = record
     { long = y.long ∙ x.long; grows = λ n v h. y.grows n v (x.grows n v h); sound = λ t h. y.sound t (x.sound t h) }
 
-pub applies_not : (p : GtsParts) (a : Assign) (old : Rows) → Reaches old (assign_of a) None → Applies p a old old false
+pub applies_not : (p : GtsParts) (a : Assign) (old : Rows) → YieldsFromTable old (assign_of a) None → AppliesAssignment p a old old false
 applies_not p a old r = record {
   moves = moves_not p old;
   others = λ n v h ne. h;

@@ -4,7 +4,7 @@ use Rattle.std.proofs.lemmas.List.Sums.{count_by_more_no, count_by_more_yes, cou
 use Rattle.ar_base.specs.Lists.{Stands, IsOneOf}
 use Rattle.ar_base.proofs.Standing.{stands_within, stands_one, stands_none, stands_left, stands_next, stands_map, stands_map_back, one_left, at_most}
 use Rattle.ar_base.proofs.Items.{one_last, last_cases}
-use Rattle.flow_blocks.specs.BlocksInside.{AreBelow}
+use Rattle.flow_blocks.specs.BlocksInside.{AreUsesBelow}
 use Rattle.ar_base.specs.Numbers.{VarId}
 use Rattle.gts_core.specs.View.{assign_of, net_of}
 use Rattle.gts_core.specs.Sound.{IsSound, IsAssignTo}
@@ -208,7 +208,7 @@ uses_all p readers i uses r h u = record {
 }
 
 pub uses_below : (p : GtsParts) (uses : List (ℕ × ℕ)) → AreUses (net_of p) uses
-    → AreBelow (flows_in p.variables.items) uses
+    → AreUsesBelow (flows_in p.variables.items) uses
 uses_below p uses u = λ a b o. let d = u.only a b o in (below a d.assign.target d.to, below b d.named d.other)
   where
     below : (a n : ℕ) → IsFlow (net_of p) a n → a < flows_in p.variables.items

@@ -17,18 +17,18 @@ use Rattle.ar_meaning.specs.Dependence.{Names}
 use Rattle.ar_meaning.proofs.Dependence.{passes_named}
 use Rattle.flow_propagate.specs.Plan.{AreReaders}
 use Rattle.typed_expr.specs.Rows.{Rows}
-use Rattle.flow_propagate.specs.Table.{Holds, IsClosed, IsSoundTable, AreFacts}
-use Rattle.flow_propagate.specs.Closing.{Applies, Waits, IsWorklist, Takes, AddsWork, IsSettled, LooksAt, work_left, missing}
+use Rattle.flow_propagate.specs.Table.{TableHolds, IsClosed, IsSoundTable, AreFacts}
+use Rattle.flow_propagate.specs.Closing.{AppliesAssignment, Waits, IsWorklist, TakesAssignment, AddsWork, IsWorkSettled, LooksAt, closing_work_left, missing}
 use Rattle.flow_propagate.specs.declared.worklist.Worklist.{Worklist}
 use Rattle.flow_propagate.proofs.ReaderPairs.{pair_eq, pair_same, pair_equiv}
 use Rattle.flow_propagate.proofs.Numbered.{read_there}
 
 -- an assignment that does not name the target keeps what it has
-stays : (p : GtsParts) (a b : Assign) (old new : Rows) (changed : Bool) → Applies p a old new changed
+stays : (p : GtsParts) (a b : Assign) (old new : Rows) (changed : Bool) → AppliesAssignment p a old new changed
     → (Names (assign_of b) a.target.n → ⊥)
-    → ((v : Value) → PassesConditions (Holds old) (assign_of b).conditions
-    → Yields (Holds old) (out-Expr ℕ (assign_of b).value) v
-    → Allows (net_of p) b.target.n v → Holds new b.target.n v) → IsClosed (net_of p) new (assign_of b)
+    → ((v : Value) → PassesConditions (TableHolds old) (assign_of b).conditions
+    → Yields (TableHolds old) (out-Expr ℕ (assign_of b).value) v
+    → Allows (net_of p) b.target.n v → TableHolds new b.target.n v) → IsClosed (net_of p) new (assign_of b)
 stays p a b old new changed m lacks has v pass y al =
     has v (passes_named (λ x w d h. m.others x w h (λ e. lacks (subst (λ (z : ℕ). Names (assign_of b) z) e (inr d))))
     pass)
@@ -56,7 +56,7 @@ one_or_not (x ∷ xs) q = go (same_or_not x q) (one_or_not xs q)
 
 -- the assignment's target got nothing: it has what it adds
 pub looks_still : (p : GtsParts) (readers n : ℕ) (a : Assign) (old new : Rows) (work : Worklist)
-    → IsWorklist (length p.assigns.items) work → Stands p.assigns.items n a → Applies p a old new false
+    → IsWorklist (length p.assigns.items) work → Stands p.assigns.items n a → AppliesAssignment p a old new false
     → LooksAt p readers n old work new work
 looks_still p readers n a old new work w sa m = record {
   moves = m.moves;
@@ -76,7 +76,7 @@ looks_still p readers n a old new work w sa m = record {
     same = m.still refl
 
     mine : IsClosed (net_of p) old (assign_of a)
-    mine v pass y al = subst (λ (z : Rows). Holds z a.target.n v) same (m.done v pass y al)
+    mine v pass y al = subst (λ (z : Rows). TableHolds z a.target.n v) same (m.done v pass y al)
 
     here : (k : ℕ) (b : Assign) → k ≡ n → Stands p.assigns.items k b → IsClosed (net_of p) new (assign_of b)
     here k b e st =
@@ -86,7 +86,7 @@ looks_still p readers n a old new work w sa m = record {
 
 -- the assignment's target got a value: the readers of the target wait
 pub looks_more : (p : GtsParts) (readers : List (ℕ × ℕ)) (most n : ℕ) (a : Assign) (old new : Rows)
-    (before after : Worklist) → AreReaders p readers → Stands p.assigns.items n a → Applies p a old new true
+    (before after : Worklist) → AreReaders p readers → Stands p.assigns.items n a → AppliesAssignment p a old new true
     → AddsWork (length p.assigns.items) most (λ m. IsOneOf readers (a.target.n, m)) before after
     → LooksAt p most n old before new after
 looks_more p readers most n a old new before after r sa m w = record {
@@ -107,9 +107,9 @@ looks_more p readers most n a old new before after r sa m w = record {
 }
   where
     again : (k : ℕ) (b : Assign) → Stands p.assigns.items k b
-        → ((v : Value) → PassesConditions (Holds old) (assign_of b).conditions
-        → Yields (Holds old) (out-Expr ℕ (assign_of b).value) v → Allows (net_of p) b.target.n v
-        → Holds new b.target.n v) → Waits after k ⊎ IsClosed (net_of p) new (assign_of b)
+        → ((v : Value) → PassesConditions (TableHolds old) (assign_of b).conditions
+        → Yields (TableHolds old) (out-Expr ℕ (assign_of b).value) v → Allows (net_of p) b.target.n v
+        → TableHolds new b.target.n v) → Waits after k ⊎ IsClosed (net_of p) new (assign_of b)
     again k b st has = elim (one_or_not readers (a.target.n, k)) [
       | inl o ↦ inl (w.adds k o)
       | inr f ↦ inr (stays p a b old new true m
@@ -117,18 +117,18 @@ looks_more p readers most n a old new before after r sa m w = record {
     ]
 
     mine : (k : ℕ) (b : Assign) → k ≡ n → Stands p.assigns.items k b → (v : Value)
-        → PassesConditions (Holds old) (assign_of b).conditions → Yields (Holds old) (out-Expr ℕ (assign_of b).value) v
-        → Allows (net_of p) b.target.n v → Holds new b.target.n v
+        → PassesConditions (TableHolds old) (assign_of b).conditions → Yields (TableHolds old) (out-Expr ℕ (assign_of b).value) v
+        → Allows (net_of p) b.target.n v → TableHolds new b.target.n v
     mine k b e st =
         let one : a ≡ b = stands_one p.assigns.items n a b sa (subst (λ (z : ℕ). Stands p.assigns.items z b) e st) in
-        let P : Assign → Type 0 = λ z. (v : Value) → PassesConditions (Holds old) (assign_of z).conditions
-        → Yields (Holds old) (out-Expr ℕ (assign_of z).value) v → Allows (net_of p) z.target.n v
-        → Holds new z.target.n v in
+        let P : Assign → Type 0 = λ z. (v : Value) → PassesConditions (TableHolds old) (assign_of z).conditions
+        → Yields (TableHolds old) (out-Expr ℕ (assign_of z).value) v → Allows (net_of p) z.target.n v
+        → TableHolds new z.target.n v in
         subst P one m.done
 
 -- what is settled once the next assignment was taken
-pub taken : (p : GtsParts) (count n : ℕ) (rows : Rows) (old new : Worklist) → IsSettled p rows old
-    → Takes count n old new → (m : ℕ) (a : Assign) → Stands p.assigns.items m a
+pub taken : (p : GtsParts) (count n : ℕ) (rows : Rows) (old new : Worklist) → IsWorkSettled p rows old
+    → TakesAssignment count n old new → (m : ℕ) (a : Assign) → Stands p.assigns.items m a
     → (m ≡ n) ⊎ (Waits new m ⊎ IsClosed (net_of p) rows (assign_of a))
 taken p count n rows old new h t m a st = elim (h m a st) [
   | inl w ↦ (elim (t.others m w) [ inl e ↦ inl e | inr k ↦ inr (inl k) ])
@@ -136,18 +136,18 @@ taken p count n rows old new h t m a st = elim (h m a st) [
 ]
 
 -- where none waits, each assignment has what it adds
-pub all_closed : (p : GtsParts) (rows : Rows) (work : Worklist) → IsSettled p rows work → ((n : ℕ) → Waits work n → ⊥)
+pub all_closed : (p : GtsParts) (rows : Rows) (work : Worklist) → IsWorkSettled p rows work → ((n : ℕ) → Waits work n → ⊥)
     → (n : ℕ) (a : Assign) → Stands p.assigns.items n a → IsClosed (net_of p) rows (assign_of a)
 all_closed p rows work h lacks n a st = elim (h n a st) [ inl w ↦ absurd (lacks n w) | inr c ↦ c ]
 
 -- a sound table that holds what is given and is closed has exactly the facts
 pub are_facts : (p : GtsParts) (t : List Value) (rows : Rows) → IsSoundTable (net_of p) t rows
-    → ((n : ℕ) (v : Value) → HasStateValue (net_of p) t n v → Holds rows n v)
+    → ((n : ℕ) (v : Value) → HasStateValue (net_of p) t n v → TableHolds rows n v)
     → ((n : ℕ) (a : Assign) → Stands p.assigns.items n a → IsClosed (net_of p) rows (assign_of a))
     → AreFacts (net_of p) t rows
 are_facts p t rows sound given c = record {
   sound = sound;
-  complete = least (net_of p).assertions (Allows (net_of p)) (HasStateValue (net_of p) t) (Holds rows) given
+  complete = least (net_of p).assertions (Allows (net_of p)) (HasStateValue (net_of p) t) (TableHolds rows) given
       (λ a v i q y al. closed a i v q y al);
 }
   where
@@ -158,6 +158,6 @@ are_facts p t rows sound given c = record {
 
 -- a look after a taking leaves less to do
 pub left_less : (p : GtsParts) (readers count n : ℕ) (old new : Rows) (first mid after : Worklist)
-    → Takes count n first mid → LooksAt p readers n old mid new after
-    → work_left p readers new after < work_left p readers old first
+    → TakesAssignment count n first mid → LooksAt p readers n old mid new after
+    → closing_work_left p readers new after < closing_work_left p readers old first
 left_less p readers count n old new first mid after t l = let a = t.less in let b = l.less in omega (arith, a, b)

@@ -7,8 +7,8 @@ use Rattle.domains.specs.Same.{has_value}
 use Rattle.domains.specs.declared.Value.{Value}
 use Rattle.domains.proofs.Same.{has_in, in_has}
 use Rattle.gts_core.specs.declared.system.Variable.{Variable}
-use Rattle.typed_expr.specs.Rows.{Rows, row_at}
-use Rattle.flow_propagate.specs.Table.{Holds}
+use Rattle.typed_expr.specs.Rows.{Rows, known_row_at}
+use Rattle.flow_propagate.specs.Table.{TableHolds}
 use Rattle.flow_propagate.specs.Closing.{lacking, missing_from}
 
 cond_le : (a b : Bool) → (a ≡ true → b ≡ true) → cond {A = ℕ} b 0 1 ≤ cond {A = ℕ} a 0 1
@@ -44,27 +44,27 @@ lacking_less (x ∷ vs) old new v g (suc k, h, e) was is =
     let b = lacking_less vs old new v g (k, omega (arith, h), e) was is in
     omega arith
 
-pub missing_le : (k : ℕ) (xs : List Variable) (old new : Rows) → ((n : ℕ) (w : Value) → Holds old n w → Holds new n w)
+pub missing_le : (k : ℕ) (xs : List Variable) (old new : Rows) → ((n : ℕ) (w : Value) → TableHolds old n w → TableHolds new n w)
     → missing_from k xs new ≤ missing_from k xs old
 missing_le k [] old new g = omega arith
 missing_le k (x ∷ xs) old new g =
-    let a = lacking_le (values_of x.domain) (row_at old k) (row_at new k) (g k) in
+    let a = lacking_le (values_of x.domain) (known_row_at old k) (known_row_at new k) (g k) in
     let b = missing_le (k + 1) xs old new g in
     omega arith
 
-pub missing_less : (k : ℕ) (xs : List Variable) (old new : Rows) → ((n : ℕ) (w : Value) → Holds old n w → Holds new n w)
+pub missing_less : (k : ℕ) (xs : List Variable) (old new : Rows) → ((n : ℕ) (w : Value) → TableHolds old n w → TableHolds new n w)
     → (j n : ℕ) (x : Variable) (v : Value) → n ≡ k + j → Stands xs j x → Contains (values_of x.domain) v
-    → (Holds old n v → ⊥) → Holds new n v → missing_from k xs new < missing_from k xs old
+    → (TableHolds old n v → ⊥) → TableHolds new n v → missing_from k xs new < missing_from k xs old
 missing_less k [] old new g j n x v at s c was is = absurd (stands_none j x s)
 missing_less k (y ∷ xs) old new g zero n x v at s c was is =
     let e : y ≡ x = cc in
     let i : n ≡ k = omega arith in
-    let a = lacking_less (values_of y.domain) (row_at old k) (row_at new k) v (g k)
+    let a = lacking_less (values_of y.domain) (known_row_at old k) (known_row_at new k) v (g k)
     (subst (λ (z : Variable). Contains (values_of z.domain) v) (sym e) c)
-    (λ h. was (subst (λ (z : ℕ). Holds old z v) (sym i) h)) (subst (λ (z : ℕ). Holds new z v) i is) in
+    (λ h. was (subst (λ (z : ℕ). TableHolds old z v) (sym i) h)) (subst (λ (z : ℕ). TableHolds new z v) i is) in
     let b = missing_le (k + 1) xs old new g in
     omega arith
 missing_less k (y ∷ xs) old new g (suc j) n x v at s c was is =
-    let a = lacking_le (values_of y.domain) (row_at old k) (row_at new k) (g k) in
+    let a = lacking_le (values_of y.domain) (known_row_at old k) (known_row_at new k) (g k) in
     let b = missing_less (k + 1) xs old new g j n x v (omega arith) s c was is in
     omega arith

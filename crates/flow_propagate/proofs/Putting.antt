@@ -10,12 +10,12 @@ use Rattle.gts_core.specs.Sound.{IsSound}
 use Rattle.gts_core.specs.declared.system.Variable.{Variable}
 use Rattle.gts_core.specs.declared.system.Assign.{Assign}
 use Rattle.gts_core.specs.declared.system.GtsParts.{GtsParts}
-use Rattle.typed_expr.specs.Rows.{Rows, row_at}
-use Rattle.flow_propagate.specs.Table.{Holds, Puts, PutsAll}
+use Rattle.typed_expr.specs.Rows.{Rows, known_row_at}
+use Rattle.flow_propagate.specs.Table.{TableHolds, PutsValue, PutsAll}
 
 module _ (new : Vec Value Global) where
-  set_grows : (rows : Rows) (t : ℕ) → ((w : Value) → Contains (row_at rows t) w → Contains new.items w)
-      → (n : ℕ) (w : Value) → Holds rows n w → Holds (set rows t new) n w
+  set_grows : (rows : Rows) (t : ℕ) → ((w : Value) → Contains (known_row_at rows t) w → Contains new.items w)
+      → (n : ℕ) (w : Value) → TableHolds rows n w → TableHolds (set rows t new) n w
   set_grows [] zero h n w k = k
   set_grows [] (suc t) h n w k = k
   set_grows (r ∷ rows) zero h zero w k = h w k
@@ -24,8 +24,8 @@ module _ (new : Vec Value Global) where
   set_grows (r ∷ rows) (suc t) h (suc n) w k = set_grows rows t h n w k
 
   set_only : (Q : Value → Type 0) (rows : Rows) (t : ℕ)
-      → ((w : Value) → Contains new.items w → Contains (row_at rows t) w ⊎ Q w) → (n : ℕ) (w : Value)
-      → Holds (set rows t new) n w → Holds rows n w ⊎ ((n ≡ t) × Q w)
+      → ((w : Value) → Contains new.items w → Contains (known_row_at rows t) w ⊎ Q w) → (n : ℕ) (w : Value)
+      → TableHolds (set rows t new) n w → TableHolds rows n w ⊎ ((n ≡ t) × Q w)
   set_only Q [] zero h n w k = inl k
   set_only Q [] (suc t) h n w k = inl k
   set_only Q (r ∷ rows) zero h zero w k = elim (h w k) [ inl a ↦ inl a | inr q ↦ inr (refl, q) ]
@@ -34,14 +34,14 @@ module _ (new : Vec Value Global) where
   set_only Q (r ∷ rows) (suc t) h (suc n) w k =
       elim (set_only Q rows t h n w k) [ inl a ↦ inl a | inr q ↦ inr (ap suc q.0, q.1) ]
 
-  set_there : (rows : Rows) (t : ℕ) (w : Value) → t < length rows → Contains new.items w → Holds (set rows t new) t w
+  set_there : (rows : Rows) (t : ℕ) (w : Value) → t < length rows → Contains new.items w → TableHolds (set rows t new) t w
   set_there [] zero w h k = absurd (omega arith)
   set_there [] (suc t) w h k = absurd (omega arith)
   set_there (r ∷ rows) zero w h k = k
   set_there (r ∷ rows) (suc t) w h k = set_there rows t w (omega arith) k
 
 pub row_here : (rows : Rows) (t : ℕ) (row : Vec Value Global) → t < length rows → row ≡ get_or rows t row
-    → row_at rows t ≡ row.items
+    → known_row_at rows t ≡ row.items
 row_here [] zero row h e = absurd (omega arith)
 row_here [] (suc t) row h e = absurd (omega arith)
 row_here (r ∷ rows) zero row h e = ap (λ (z : Vec Value Global). z.items) (sym e)
@@ -49,10 +49,10 @@ row_here (r ∷ rows) (suc t) row h e = row_here rows t row (omega arith) e
 
 -- a new value
 pub puts_new : (d : Domain) (t : ℕ) (v : Value) (rows : Rows) (row new : Vec Value Global) → t < length rows
-    → row ≡ get_or rows t row → new.items ≡ row.items ++ v ∷ [] → domains.Holds d v → (Holds rows t v → ⊥)
-    → Puts d t v rows (set rows t new) true
+    → row ≡ get_or rows t row → new.items ≡ row.items ++ v ∷ [] → domains.Holds d v → (TableHolds rows t v → ⊥)
+    → PutsValue d t v rows (set rows t new) true
 puts_new d t v rows row new h is e k lacks =
-    let here : row_at rows t ≡ row.items = row_here rows t row h is in record {
+    let here : known_row_at rows t ≡ row.items = row_here rows t row h is in record {
       long = length-set rows t new;
       grows = set_grows new rows t (λ w c. subst (λ (z : List Value). Contains z w) (sym e)
           (Contains-append_left row.items (v ∷ []) w (subst (λ (z : List Value). Contains z w) here c)));
@@ -66,12 +66,12 @@ puts_new d t v rows row new h is e k lacks =
       gains = λ i. record { value = v; allowed = k; was_not = lacks; is = here_now };
     }
   where
-    here_now : Holds (set rows t new) t v
+    here_now : TableHolds (set rows t new) t v
     here_now = set_there new rows t v h (subst (λ (z : List Value). Contains z v) (sym e) (Contains-push row.items v))
 
 -- nothing is put
-pub puts_nothing : (d : Domain) (t : ℕ) (v : Value) (rows : Rows) → (domains.Holds d v → Holds rows t v)
-    → Puts d t v rows rows false
+pub puts_nothing : (d : Domain) (t : ℕ) (v : Value) (rows : Rows) → (domains.Holds d v → TableHolds rows t v)
+    → PutsValue d t v rows rows false
 puts_nothing d t v rows h = record {
   long = refl;
   grows = λ n w c. c;
@@ -82,12 +82,12 @@ puts_nothing d t v rows h = record {
 }
 
 pub row_holds : (rows : Rows) (t : ℕ) (row : Vec Value Global) (v : Value) → t < length rows → row ≡ get_or rows t row
-    → Contains row.items v → Holds rows t v
+    → Contains row.items v → TableHolds rows t v
 row_holds rows t row v h is c = subst (λ (z : List Value). Contains z v) (sym (row_here rows t row h is)) c
 
 -- one value more
 pub puts_more : (d : Domain) (t : ℕ) (vs : List Value) (i : ℕ) (v : Value) (old mid new : Rows) (b c e : Bool)
-    → i < length vs → v ≡ get_or vs i v → PutsAll d t (take i vs) old mid b → Puts d t v mid new c
+    → i < length vs → v ≡ get_or vs i v → PutsAll d t (take i vs) old mid b → PutsValue d t v mid new c
     → (e ≡ false → (b ≡ false) × (c ≡ false)) → (e ≡ true → (b ≡ true) ⊎ (c ≡ true))
     → PutsAll d t (take (i + 1) vs) old new e
 puts_more d t vs i v old mid new b c e h is a p k one =
@@ -112,7 +112,7 @@ puts_more d t vs i v old mid new b c e h is a p k one =
       still = λ f. p.still (k f).1 ∙ a.still (k f).0;
       there = λ w x m. elim (Contains-push_cases (take i vs) v w x) [
         | inl y ↦ p.grows t w (a.there w y m)
-        | inr y ↦ subst (λ (u : Value). Holds new t u) y (p.there (subst (λ (u : Value). domains.Holds d u) (sym y) m))
+        | inr y ↦ subst (λ (u : Value). TableHolds new t u) y (p.there (subst (λ (u : Value). domains.Holds d u) (sym y) m))
       ];
       gains = λ f. elim (one f) [
         | inl x ↦ (let g = a.gains x in record { value = g.value; allowed = g.allowed; was_not = g.was_not; is = p.grows t g.value g.is })

@@ -24,7 +24,7 @@ use Rattle.ar_meaning.specs.Dependence.{Names}
 use Rattle.ar_meaning.specs.DependenceInside.{IsReadBy}
 use Rattle.flow_propagate.specs.Plan.{ComesBefore, AreReaders, AreGivers}
 use Rattle.gts_core.specs.Named.{ReadsVariable}
-use Rattle.flow_propagate.specs.Named.{IsPairFor, AddsNamed, AreNamed, AreTargets, Ascend}
+use Rattle.flow_propagate.specs.Named.{IsPairFor, AddsNamed, AreNamed, AreTargets, ArePairsSorted}
 use Rattle.flow_propagate.proofs.Numbered.{read_there, read_back}
 
 pub named_start : (p : GtsParts) → AreNamed p 0 []
@@ -115,10 +115,10 @@ strictly (x ∷ xs) (suc j) (suc k) q r s h a b = strictly xs j k q r s.1 (omega
 
 -- the pairs, sorted and each once
 pub ascend : (pairs sorted kept : List (ℕ × ℕ)) → IsPermutation pairs sorted → IsSorted pair_cmp sorted
-    → IsFiltered (DiffersFromLast pair_eq) [] sorted kept → Ascend pairs kept
+    → IsFiltered (DiffersFromLast pair_eq) [] sorted kept → ArePairsSorted pairs kept
 ascend pairs sorted kept perm order filtered =
     let is : kept ≡ dedup pair_eq sorted = dedup_is pair_eq sorted kept filtered in
-    let P : List (ℕ × ℕ) → Type 0 = λ z. Ascend pairs z in
+    let P : List (ℕ × ℕ) → Type 0 = λ z. ArePairsSorted pairs z in
     subst P (sym is) (record {
       all = there;
       only = back;
@@ -139,7 +139,7 @@ ascend pairs sorted kept perm order filtered =
         unsort q c = Contains-permutation sorted pairs q (IsPermutation-sym pairs sorted perm) c
 
 pub readers_sorted : (p : GtsParts) (pairs kept : List (ℕ × ℕ)) → AreNamed p (length p.assigns.items) pairs
-    → Ascend pairs kept → AreReaders p kept
+    → ArePairsSorted pairs kept → AreReaders p kept
 readers_sorted p pairs kept a s = record {
   only = λ x n o. a.only (x, n) (s.only (x, n) o);
   all = λ x n r. s.all (x, n) (let h = read_back p x n r in a.all x n (stands_within p.assigns.items n h.assign h.stands) r);
@@ -147,7 +147,7 @@ readers_sorted p pairs kept a s = record {
 }
 
 pub givers_sorted : (p : GtsParts) (pairs kept : List (ℕ × ℕ)) → AreTargets p (length p.assigns.items) pairs
-    → Ascend pairs kept → AreGivers p kept
+    → ArePairsSorted pairs kept → AreGivers p kept
 givers_sorted p pairs kept a s = record {
   only = λ x n o. a.only x n (s.only (x, n) o);
   all = λ n x st. s.all (x.target.n, n) (a.all n x (stands_within p.assigns.items n x st) st);

@@ -19,13 +19,13 @@ use Rattle.gts_core.proofs.Viewing.{variable_there, variable_back}
 use Rattle.gts_core.specs.declared.system.Variable.{Variable}
 use Rattle.gts_core.specs.declared.system.Assign.{Assign}
 use Rattle.gts_core.specs.declared.system.GtsParts.{GtsParts}
-use Rattle.typed_expr.specs.Rows.{Rows, row_at}
-use Rattle.flow_propagate.specs.Table.{Holds, AreFacts}
+use Rattle.typed_expr.specs.Rows.{Rows, known_row_at}
+use Rattle.flow_propagate.specs.Table.{TableHolds, AreFacts}
 use Rattle.fact_rows.specs.Rows.{IsTwo}
-use Rattle.flow_propagate.specs.Searches.{Leaves, LeavesDomain, IsLeast}
+use Rattle.flow_propagate.specs.Searches.{LeavesADomain, LeavesTargetDomain, IsLeastTarget}
 
 module _ (p : GtsParts) (t : List Value) (rows : Rows) (facts : AreFacts (net_of p) t rows) where
-  two_there : (n : ℕ) (x : Variable) → IsTwo x.is_state (row_at rows n) → HasTwo (net_of p) t (variable_of n x)
+  two_there : (n : ℕ) (x : Variable) → IsTwo x.is_state (known_row_at rows n) → HasTwo (net_of p) t (variable_of n x)
   two_there n x h = record {
     is_flow = h.0;
     first = h.1.first;
@@ -35,7 +35,7 @@ module _ (p : GtsParts) (t : List Value) (rows : Rows) (facts : AreFacts (net_of
     differ = h.1.differ;
   }
 
-  two_back : (n : ℕ) (x : Variable) → HasTwo (net_of p) t (variable_of n x) → IsTwo x.is_state (row_at rows n)
+  two_back : (n : ℕ) (x : Variable) → HasTwo (net_of p) t (variable_of n x) → IsTwo x.is_state (known_row_at rows n)
   two_back n x h = (
     h.is_flow,
     record {
@@ -48,14 +48,14 @@ module _ (p : GtsParts) (t : List Value) (rows : Rows) (facts : AreFacts (net_of
   )
 
   two_before : (n : ℕ) → ((k : ℕ) (x : Variable) → k < n → Stands p.variables.items k x
-      → IsTwo x.is_state (row_at rows k) → ⊥)
+      → IsTwo x.is_state (known_row_at rows k) → ⊥)
       → (k : ℕ) (y : s.Variable ℕ) → k < n → Stands (net_of p).variables k y → HasTwo (net_of p) t y → ⊥
   two_before n before k y l st h =
       let r = variable_back p k y st in
       before k r.0 l r.1 (two_back k r.0 (subst (λ (z : s.Variable ℕ). HasTwo (net_of p) t z) (sym r.2) h))
 
-  pub two_found : (n : ℕ) (x : Variable) → Stands p.variables.items n x → IsTwo x.is_state (row_at rows n)
-      → ((k : ℕ) (x : Variable) → k < n → Stands p.variables.items k x → IsTwo x.is_state (row_at rows k) → ⊥)
+  pub two_found : (n : ℕ) (x : Variable) → Stands p.variables.items n x → IsTwo x.is_state (known_row_at rows n)
+      → ((k : ℕ) (x : Variable) → k < n → Stands p.variables.items k x → IsTwo x.is_state (known_row_at rows k) → ⊥)
       → IsFirst (net_of p).variables (HasTwo (net_of p) t) n
   two_found n x st h before = record {
     item = variable_of n x;
@@ -65,7 +65,7 @@ module _ (p : GtsParts) (t : List Value) (rows : Rows) (facts : AreFacts (net_of
   }
 
   pub two_none : (n : ℕ) → length p.variables.items ≤ n
-      → ((k : ℕ) (x : Variable) → k < n → Stands p.variables.items k x → IsTwo x.is_state (row_at rows k) → ⊥)
+      → ((k : ℕ) (x : Variable) → k < n → Stands p.variables.items k x → IsTwo x.is_state (known_row_at rows k) → ⊥)
       → HasNo (net_of p).variables (HasTwo (net_of p) t)
   two_none n h before = record {
     has_not = λ k y st two.
@@ -76,18 +76,18 @@ module _ (p : GtsParts) (t : List Value) (rows : Rows) (facts : AreFacts (net_of
 
 -- an answer about the domain of the target
 pub leaves_as : (p : GtsParts) (rows : Rows) (a : Assign) (d : Domain) (b : Bool) (x : Variable)
-    → Stands p.variables.items a.target.n x → d ≡ x.domain → IsAnswer b (Leaves rows d a)
-    → IsAnswer b (LeavesDomain p rows a)
+    → Stands p.variables.items a.target.n x → d ≡ x.domain → IsAnswer b (LeavesADomain rows d a)
+    → IsAnswer b (LeavesTargetDomain p rows a)
 leaves_as p rows a d true x st e h =
-    record { variable = x; stands = st; leaves = subst (λ (z : Domain). Leaves rows z a) e h }
+    record { variable = x; stands = st; leaves = subst (λ (z : Domain). LeavesADomain rows z a) e h }
 leaves_as p rows a d false x st e h = λ k.
     let same : k.variable ≡ x = stands_one p.variables.items a.target.n k.variable x k.stands st in
-    h (subst (λ (z : Domain). Leaves rows z a) (ap (λ (z : Variable). z.domain) same ∙ sym e) k.leaves)
+    h (subst (λ (z : Domain). LeavesADomain rows z a) (ap (λ (z : Variable). z.domain) same ∙ sym e) k.leaves)
 
 module _ (p : GtsParts) (sound : IsSound p) (t : List Value) (rows : Rows) (facts : AreFacts (net_of p) t rows) where
   -- an outside flow of the system is the target of an assignment that leaves its domain
   outside_back : (n : ℕ) (y : s.Variable ℕ) → Stands (net_of p).variables n y → IsOutside (net_of p) t y
-      → (k : ℕ) × (a : Assign) × Stands p.assigns.items k a × LeavesDomain p rows a × (a.target.n ≡ n)
+      → (k : ℕ) × (a : Assign) × Stands p.assigns.items k a × LeavesTargetDomain p rows a × (a.target.n ≡ n)
   outside_back n y st h =
       let i = stands_map_back assign_of p.assigns.items h.is_one.place h.assign h.is_one.stands in
       let v = variable_back p n y st in
@@ -101,11 +101,11 @@ module _ (p : GtsParts) (sound : IsSound p) (t : List Value) (rows : Rows) (fact
           variable = v.0;
           stands = subst (λ (z : ℕ). Stands p.variables.items z v.0) (sym target) v.1;
           leaves = record {
-            passes = subst (λ (z : s.Assign ℕ). PassesConditions (Holds rows) z.conditions) (sym i.2)
-                (passes_more ℕ (FactOf (net_of p) t) (Holds rows) facts.complete h.passes);
+            passes = subst (λ (z : s.Assign ℕ). PassesConditions (TableHolds rows) z.conditions) (sym i.2)
+                (passes_more ℕ (FactOf (net_of p) t) (TableHolds rows) facts.complete h.passes);
             value = h.value;
-            yields = subst (λ (z : s.Assign ℕ). Yields (Holds rows) (out-Expr ℕ z.value) h.value) (sym i.2)
-                (yields_more ℕ (FactOf (net_of p) t) (Holds rows) facts.complete h.yields);
+            yields = subst (λ (z : s.Assign ℕ). Yields (TableHolds rows) (out-Expr ℕ z.value) h.value) (sym i.2)
+                (yields_more ℕ (FactOf (net_of p) t) (TableHolds rows) facts.complete h.yields);
             outside = λ c. h.outside (subst (λ (z : s.Variable ℕ). Contains z.domain h.value) v.2
                 (listed v.0.domain h.value c));
           };
@@ -113,7 +113,7 @@ module _ (p : GtsParts) (sound : IsSound p) (t : List Value) (rows : Rows) (fact
         target,
       )
 
-  outside_there : (a : Assign) (n : ℕ) → IsOneOf p.assigns.items a → (l : LeavesDomain p rows a) → a.target.n ≡ n
+  outside_there : (a : Assign) (n : ℕ) → IsOneOf p.assigns.items a → (l : LeavesTargetDomain p rows a) → a.target.n ≡ n
       → IsOutside (net_of p) t (variable_of n l.variable)
   outside_there a n one l e =
       let r = sound.assertions a one in
@@ -123,13 +123,13 @@ module _ (p : GtsParts) (sound : IsSound p) (t : List Value) (rows : Rows) (fact
         value = l.leaves.value;
         is_one = record { place = one.place; stands = stands_map assign_of p.assigns.items one.place a one.stands };
         is_target = e;
-        passes = passes_more ℕ (Holds rows) (FactOf (net_of p) t) facts.sound l.leaves.passes;
-        yields = yields_more ℕ (Holds rows) (FactOf (net_of p) t) facts.sound l.leaves.yields;
+        passes = passes_more ℕ (TableHolds rows) (FactOf (net_of p) t) facts.sound l.leaves.passes;
+        yields = yields_more ℕ (TableHolds rows) (FactOf (net_of p) t) facts.sound l.leaves.yields;
         outside = λ c. l.leaves.outside (held l.variable.domain l.leaves.value
             (sound.variables a.target.n l.variable l.stands).domain c);
       }
 
-  pub outside_found : (n : ℕ) → IsLeast p.assigns.items (length p.assigns.items) (LeavesDomain p rows) (Some n)
+  pub outside_found : (n : ℕ) → IsLeastTarget p.assigns.items (length p.assigns.items) (LeavesTargetDomain p rows) (Some n)
       → IsFirst (net_of p).variables (IsOutside (net_of p) t) n
   outside_found n l =
       let w = l.0 in
@@ -143,7 +143,7 @@ module _ (p : GtsParts) (sound : IsSound p) (t : List Value) (rows : Rows) (fact
             let low = l.1 b.0 b.1 (stands_within p.assigns.items b.0 b.1 b.2) b.2 b.3 in omega (arith, low, b.4);
       }
 
-  pub outside_none : IsLeast p.assigns.items (length p.assigns.items) (LeavesDomain p rows) None
+  pub outside_none : IsLeastTarget p.assigns.items (length p.assigns.items) (LeavesTargetDomain p rows) None
       → HasNo (net_of p).variables (IsOutside (net_of p) t)
   outside_none l = record {
     has_not = λ k y st h.

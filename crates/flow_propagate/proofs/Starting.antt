@@ -11,14 +11,14 @@ use Rattle.gts_core.specs.View.{net_of, variable_of}
 use Rattle.gts_core.proofs.Viewing.{variable_there, variable_back, are_numbered}
 use Rattle.gts_core.specs.declared.system.Variable.{Variable}
 use Rattle.gts_core.specs.declared.system.GtsParts.{GtsParts}
-use Rattle.typed_expr.specs.Rows.{Rows, row_at}
+use Rattle.typed_expr.specs.Rows.{Rows, known_row_at}
 use Rattle.fact_rows.specs.Rows.{Starts}
-use Rattle.flow_propagate.specs.Table.{Holds, IsSoundTable}
+use Rattle.flow_propagate.specs.Table.{TableHolds, IsSoundTable}
 
 pub one_there : (v : Value) → Contains (v ∷ []) v
 one_there v = (0, omega arith, refl)
 
-pub holds_within : (rows : Rows) (n : ℕ) (v : Value) → Holds rows n v → n < length rows
+pub holds_within : (rows : Rows) (n : ℕ) (v : Value) → TableHolds rows n v → n < length rows
 holds_within [] zero v h = absurd (nothing-in v h)
 holds_within [] (suc n) v h = absurd (nothing-in v h)
 holds_within (r ∷ rows) zero v h = omega arith
@@ -42,11 +42,11 @@ module _ (p : GtsParts) (t : List Value) (rows : Rows) (long : length t ≡ leng
       by_state n x.0 w.0 v x.0.is_state refl x.1 w.1
       (subst (λ (z : List Value). Contains z v) (st.row n x.0 w.0 below x.1 w.1) h)
 
-  pub starts_given : (n : ℕ) (v : Value) → HasStateValue (net_of p) t n v → Holds rows n v
+  pub starts_given : (n : ℕ) (v : Value) → HasStateValue (net_of p) t n v → TableHolds rows n v
   starts_given n v g =
       let r = variable_back p g.place g.variable g.stands in
       let place : g.place ≡ n = ap (λ (z : s.Variable ℕ). z.key) r.2 ∙ g.is_key in
       let is : r.0.is_state ≡ true = ap (λ (z : s.Variable ℕ). z.is_state) r.2 ∙ g.is_state in
       let row = st.row g.place r.0 v (stands_within p.variables.items g.place r.0 r.1) r.1 g.value in
-      let full : row_at rows g.place ≡ v ∷ [] = row ∙ ap (λ b. cond b (v ∷ []) []) is in
-      subst (λ (z : ℕ). Holds rows z v) place (subst (λ (z : List Value). Contains z v) (sym full) (one_there v))
+      let full : known_row_at rows g.place ≡ v ∷ [] = row ∙ ap (λ b. cond b (v ∷ []) []) is in
+      subst (λ (z : ℕ). TableHolds rows z v) place (subst (λ (z : List Value). Contains z v) (sym full) (one_there v))

@@ -18,14 +18,14 @@ use Rattle.gts_core.proofs.Reading.{passes_answer, value_yielded, yielded_value}
 use Rattle.gts_core.specs.declared.system.Variable.{Variable}
 use Rattle.gts_core.specs.declared.system.Assign.{Assign}
 use Rattle.gts_core.specs.declared.system.GtsParts.{GtsParts}
-use Rattle.typed_expr.specs.Rows.{Rows, row_at}
+use Rattle.typed_expr.specs.Rows.{Rows, known_row_at}
 use Rattle.flow_propagate.specs.Table.{AreFacts}
 use Rattle.flow_propagate.specs.Totals.{Completed, completed_value, Breaks}
 
 pub completed_more : (vars : List Variable) (values : List Value) (rows : Rows) (i : ℕ) (x : Variable) (v : Value)
     (total new : List Value) (w : Value)
     → Completed vars values rows i total → Stands vars i x → Stands values i v
-    → w ≡ completed_value x.is_state v (row_at rows i) x.value → new ≡ total ++ w ∷ []
+    → w ≡ completed_value x.is_state v (known_row_at rows i) x.value → new ≡ total ++ w ∷ []
     → Completed vars values rows (i + 1) new
 completed_more vars values rows i x v total new w c sx sv is e =
     let P : List Value → Type 0 = λ z. Completed vars values rows (i + 1) z in
@@ -35,23 +35,23 @@ completed_more vars values rows i x v total new w c sx sv is e =
     })
   where
     go : (n : ℕ) (y : Variable) (u : Value) → Stands vars n y → Stands values n u → (n < i) ⊎ (n ≡ i)
-        → Stands (total ++ w ∷ []) n (completed_value y.is_state u (row_at rows n) y.value)
+        → Stands (total ++ w ∷ []) n (completed_value y.is_state u (known_row_at rows n) y.value)
     go n y u sy su (inl l) = stands_left total (w ∷ []) n _ (c.value n y u l sy su)
     go n y u sy su (inr j) =
         let same : y ≡ x = stands_one vars i y x (subst (λ (z : ℕ). Stands vars z y) j sy) sx in
         let one : u ≡ v = stands_one values i u v (subst (λ (z : ℕ). Stands values z u) j su) sv in
         let at : Stands (total ++ w ∷ []) i w =
         subst (λ (z : ℕ). Stands (total ++ w ∷ []) z w) c.long (stands_next total w []) in
-        let val : w ≡ completed_value y.is_state u (row_at rows n) y.value =
-        is ∙ ap (λ (z : Variable). completed_value z.is_state v (row_at rows i) z.value) (sym same)
-        ∙ ap (λ (z : Value). completed_value y.is_state z (row_at rows i) y.value) (sym one)
-        ∙ ap (λ (z : ℕ). completed_value y.is_state u (row_at rows z) y.value) (sym j) in
+        let val : w ≡ completed_value y.is_state u (known_row_at rows n) y.value =
+        is ∙ ap (λ (z : Variable). completed_value z.is_state v (known_row_at rows i) z.value) (sym same)
+        ∙ ap (λ (z : Value). completed_value y.is_state z (known_row_at rows i) y.value) (sym one)
+        ∙ ap (λ (z : ℕ). completed_value y.is_state u (known_row_at rows z) y.value) (sym j) in
         subst (λ (z : Value). Stands (total ++ w ∷ []) n z) val
         (subst (λ (z : ℕ). Stands (total ++ w ∷ []) z w) (sym j) at)
 
 module _ (p : GtsParts) (t : List Value) (rows : Rows) (facts : AreFacts (net_of p) t rows) where
   one_variable : (k : ℕ) (x : Variable) (xs : List Variable) (v : Value) (vs ws : List Value) (b : Bool)
-      → x.is_state ≡ b → (row : List Value) → row ≡ row_at rows k → (w : Value) → w ≡ completed_value b v row x.value
+      → x.is_state ≡ b → (row : List Value) → row ≡ known_row_at rows k → (w : Value) → w ≡ completed_value b v row x.value
       → Completes (FactOf (net_of p) t) (variables_from (k + 1) xs) vs ws
       → Completes (FactOf (net_of p) t) (variable_of k x ∷ variables_from (k + 1) xs) (v ∷ vs) (w ∷ ws)
   one_variable k x xs v vs ws true is row at w e c =
@@ -68,7 +68,7 @@ module _ (p : GtsParts) (t : List Value) (rows : Rows) (facts : AreFacts (net_of
 
   completes_from : (k : ℕ) (xs : List Variable) (vs ws : List Value) → length vs ≡ length xs → length ws ≡ length xs
       → ((n m : ℕ) (x : Variable) (v : Value) → m ≡ k + n → Stands xs n x → Stands vs n v
-      → Stands ws n (completed_value x.is_state v (row_at rows m) x.value))
+      → Stands ws n (completed_value x.is_state v (known_row_at rows m) x.value))
       → Completes (FactOf (net_of p) t) (variables_from k xs) vs ws
   completes_from k [] [] [] l m h = flows.none
   completes_from k [] (v ∷ vs) ws l m h = absurd (omega (arith, l))
@@ -76,10 +76,10 @@ module _ (p : GtsParts) (t : List Value) (rows : Rows) (facts : AreFacts (net_of
   completes_from k (x ∷ xs) [] ws l m h = absurd (omega (arith, l))
   completes_from k (x ∷ xs) (v ∷ vs) [] l m h = absurd (omega (arith, m))
   completes_from k (x ∷ xs) (v ∷ vs) (w ∷ ws) l m h =
-      let here : Stands (w ∷ ws) 0 (completed_value x.is_state v (row_at rows k) x.value) =
+      let here : Stands (w ∷ ws) 0 (completed_value x.is_state v (known_row_at rows k) x.value) =
       h 0 k x v (omega arith) refl refl in
-      let is : w ≡ completed_value x.is_state v (row_at rows k) x.value = cc in
-      one_variable k x xs v vs ws x.is_state refl (row_at rows k) refl w is
+      let is : w ≡ completed_value x.is_state v (known_row_at rows k) x.value = cc in
+      one_variable k x xs v vs ws x.is_state refl (known_row_at rows k) refl w is
       (completes_from (k + 1) xs vs ws (omega (arith, l)) (omega (arith, m))
       (λ n j y u e sy su. h (suc n) j y u (omega (arith, e)) sy su))
 
@@ -87,7 +87,7 @@ module _ (p : GtsParts) (t : List Value) (rows : Rows) (facts : AreFacts (net_of
       → Completed p.variables.items t rows (length p.variables.items) total
       → Completes (FactOf (net_of p) t) (net_of p).variables t total
   completes total long c = completes_from 0 p.variables.items t total long c.long
-      (λ n m x v e sx sv. subst (λ (z : ℕ). Stands total n (completed_value x.is_state v (row_at rows z) x.value)) (let i : n ≡ m = omega (arith, e) in i) (c.value n x v (stands_within p.variables.items n x sx) sx sv))
+      (λ n m x v e sx sv. subst (λ (z : ℕ). Stands total n (completed_value x.is_state v (known_row_at rows z) x.value)) (let i : n ≡ m = omega (arith, e) in i) (c.value n x v (stands_within p.variables.items n x sx) sx sv))
 
 module _ (p : GtsParts) (sound : IsSound p) (total : List Value) (is : IsTotal p total) where
   typed : (a : Assign) → IsOneOf p.assigns.items a → IsAssignTo p false a

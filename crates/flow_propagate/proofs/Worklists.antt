@@ -9,8 +9,8 @@ use Rattle.ar_base.specs.Lists.{Stands, IsOneOf}
 use Rattle.ar_base.proofs.Standing.{stands_one, stands_within, stands_some, stands_map, stands_map_back, one_contains, contains_one, at_most}
 use Rattle.ar_base.specs.declared.faults.Memory.{Memory}
 use Rattle.gts_core.specs.declared.system.GtsParts.{GtsParts}
-use Rattle.flow_propagate.specs.Plan.{ComesBefore, AreReaders, IsOrder, Reader, plain_pair}
-use Rattle.flow_propagate.specs.Closing.{IsAgain, WaitsAt, Waits, IsWorklist, TakesPlace, Takes, AddsWork}
+use Rattle.flow_propagate.specs.Plan.{ComesBefore, AreReaders, IsNumberOrder, Reader, plain_pair}
+use Rattle.flow_propagate.specs.Closing.{IsAddedAgain, WaitsAtPlace, Waits, IsWorklist, TakesWorkPlace, TakesAssignment, AddsWork}
 use Rattle.flow_propagate.specs.declared.worklist.Worklist.{Worklist}
 use Rattle.flow_propagate.proofs.Numbered.{read_back}
 
@@ -33,8 +33,8 @@ pub by_length : (count : ℕ) (w : Worklist) → IsWorklist count w → IsWorkli
 by_length count w h = subst (λ (z : ℕ). IsWorklist z w) (sym h.long) h
 
 -- the worklist without the place that was taken
-pub takes_one : (count n place : ℕ) (old new : Worklist) → IsWorklist count old → TakesPlace place old new
-    → Stands new.order.now place n → Takes count n old new
+pub takes_one : (count n place : ℕ) (old new : Worklist) → IsWorklist count old → TakesWorkPlace place old new
+    → Stands new.order.now place n → TakesAssignment count n old new
 takes_one count n place old new w t stands = record {
   is = record {
     long = ap (λ (z : List ℕ). length z) t.places ∙ w.long;
@@ -61,13 +61,13 @@ takes_one count n place old new w t stands = record {
     st = subst (λ (z : List ℕ). Stands z place n) t.order stands
 
 -- where no place waits no assignment does
-pub none_waits : (count : ℕ) (w : Worklist) → IsWorklist count w → ((p : ℕ) → p < length w.order.now → WaitsAt w p → ⊥)
+pub none_waits : (count : ℕ) (w : Worklist) → IsWorklist count w → ((p : ℕ) → p < length w.order.now → WaitsAtPlace w p → ⊥)
     → (n : ℕ) → Waits w n → ⊥
 none_waits count w h lacks n k = lacks k.place (stands_within w.order.now k.place n (h.placed n k.place k.stands))
     k.waits
 
 -- where the assignment's place waits, nothing has to be added
-pub adds_none : (count n place : ℕ) (w : Worklist) → IsWorklist count w → Stands w.places.now n place → WaitsAt w place
+pub adds_none : (count n place : ℕ) (w : Worklist) → IsWorklist count w → Stands w.places.now n place → WaitsAtPlace w place
     → AddsWork count 1 (λ m. m ≡ n) w w
 adds_none count n place w h st waits = record {
   is = h;
@@ -82,7 +82,7 @@ with_again w again = record { order = w.order; places = w.places; fresh = w.fres
 
 -- the assignment's place was added again
 pub adds_again : (count n place : ℕ) (w : Worklist) (again : BTreeSet ℕ) → IsWorklist count w
-    → Stands w.places.now n place → ((p : ℕ) → IsAgain again p ↔ (IsAgain w.again p ⊎ (p ≡ place)))
+    → Stands w.places.now n place → ((p : ℕ) → IsAddedAgain again p ↔ (IsAddedAgain w.again p ⊎ (p ≡ place)))
     → btree_set_len again ≤ btree_set_len w.again + 1 → AddsWork count 1 (λ m. m ≡ n) w (with_again w again)
 adds_again count n place w again h st all few = record {
   is = record {
@@ -210,7 +210,7 @@ pub reader_at : (readers : List Reader) (i : ℕ) → i < length readers → Sta
 reader_at readers i h = slice_get-get_or readers i no_reader h
 
 -- numbers in another order
-pub order_moved : (count : ℕ) (xs ys : List ℕ) → IsPermutation xs ys → IsOrder count xs → IsOrder count ys
+pub order_moved : (count : ℕ) (xs ys : List ℕ) → IsPermutation xs ys → IsNumberOrder count xs → IsNumberOrder count ys
 order_moved count xs ys perm o = record {
   all = λ n h. one_contains ys n (Contains-permutation xs ys n perm (contains_one xs n (o.all n h)));
   below = λ n h. o.below n (one_contains xs n
@@ -239,20 +239,20 @@ placed_more order places i m st h a j n p l s q = go (cases_eq n m)
       ])
     ]
 
-pub placed_all : (count i : ℕ) (order places : List ℕ) → IsOrder count order → length places ≡ count → length order ≤ i
+pub placed_all : (count i : ℕ) (order places : List ℕ) → IsNumberOrder count order → length places ≡ count → length order ≤ i
     → ArePlaced order i places → (n p : ℕ) → Stands places n p → Stands order p n
 placed_all count i order places o long end a n p s =
     let one = o.all n (let k = stands_within places n p s in omega (arith, k, long)) in
     a one.place n p (let k = stands_within order one.place n one.stands in omega (arith, k, end)) one.stands s
 
 -- an item of an order is below its count
-pub order_below : (count : ℕ) (order : List ℕ) (i : ℕ) → IsOrder count order → i < length order
+pub order_below : (count : ℕ) (order : List ℕ) (i : ℕ) → IsNumberOrder count order → i < length order
     → get_or order i 0 < count
 order_below count order i o h = o.below (get_or order i 0) (record { place = i; stands = slice_get-get_or order i 0 h })
 
 -- all wait
-pub all_work : (count : ℕ) (w : Worklist) → IsOrder count w.order.now → length w.places.now ≡ count
-    → ((n p : ℕ) → Stands w.places.now n p → Stands w.order.now p n) → w.fresh ≡ 0 → ((p : ℕ) → IsAgain w.again p → ⊥)
+pub all_work : (count : ℕ) (w : Worklist) → IsNumberOrder count w.order.now → length w.places.now ≡ count
+    → ((n p : ℕ) → Stands w.places.now n p → Stands w.order.now p n) → w.fresh ≡ 0 → ((p : ℕ) → IsAddedAgain w.again p → ⊥)
     → IsWorklist count w
 all_work count w o long placed fresh none = record {
   long = long;

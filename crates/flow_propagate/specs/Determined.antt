@@ -4,7 +4,7 @@ use Rattle.domains.specs.declared.Value.{Value}
 use Rattle.ar_meaning.specs.Systems.{Net}
 use Rattle.ar_meaning.specs.Facts.{FactOf}
 use Rattle.ar_meaning.specs.Flows as flows
-use Rattle.gts_core.specs.Readings.{IsTotal, values_at}
+use Rattle.gts_core.specs.Readings.{IsTotal, valuation_values}
 use Rattle.gts_core.specs.View.{net_of}
 use Rattle.gts_core.specs.declared.system.GtsParts.{GtsParts}
 use Rattle.flow_propagate.specs.Answers.{fault_of}
@@ -13,17 +13,17 @@ use Rattle.flow_propagate.specs.declared.propagation.PropagateFault.{PropagateFa
 use Rattle.flow_propagate.specs.declared.propagation.PropagateFault.TheVariants as propagates
 
 -- the value of the variable of this number, where it is known
-abbrev pub known_at : List Value → List Bool → ℕ → List Value
-known_at values known n = if unwrap_or (slice_get known n) false then values_at values n else []
+abbrev pub marked_value_at : List Value → List Bool → ℕ → List Value
+marked_value_at values known n = if unwrap_or (slice_get known n) false then valuation_values values n else []
 
 -- the valuation and its marks tell this value for the variable
-abbrev pub Tells : List Value → List Bool → ℕ → Value → Type 0
-Tells values known n v = Contains (known_at values known n) v
+abbrev pub TellsValue : List Value → List Bool → ℕ → Value → Type 0
+TellsValue values known n v = Contains (marked_value_at values known n) v
 
 -- they tell exactly the facts of the state
 pub record TellFacts (net : Net ℕ) (t values : List Value) (known : List Bool) : Type 0 where
-  pub sound : (n : ℕ) (v : Value) → Tells values known n v → FactOf net t n v
-  pub complete : (n : ℕ) (v : Value) → FactOf net t n v → Tells values known n v
+  pub sound : (n : ℕ) (v : Value) → TellsValue values known n v → FactOf net t n v
+  pub complete : (n : ℕ) (v : Value) → FactOf net t n v → TellsValue values known n v
 
 -- a total valuation that its own state determines, and for each variable whether its value is a fact
 pub record IsDetermined (p : GtsParts) (values : List Value) (known : List Bool) : Type 0 where

@@ -32,7 +32,7 @@ pub record AreTargets (p : GtsParts) (count : ℕ) (pairs : List (ℕ × ℕ)) :
   pub all : (n : ℕ) (a : Assign) → n < count → Stands p.assigns.items n a → IsOneOf pairs (a.target.n, n)
 
 -- the same pairs, ascending, each once
-pub record Ascend (pairs sorted : List (ℕ × ℕ)) : Type 0 where
+pub record ArePairsSorted (pairs sorted : List (ℕ × ℕ)) : Type 0 where
   pub all : (q : ℕ × ℕ) → IsOneOf pairs q → IsOneOf sorted q
   pub only : (q : ℕ × ℕ) → IsOneOf sorted q → IsOneOf pairs q
   pub ascending : (j k : ℕ) (q r : ℕ × ℕ) → j < k → Stands sorted j q → Stands sorted k r → ComesBefore q r

@@ -12,7 +12,7 @@ use Rattle.flow_propagate.specs.declared.plan.Plan.{Plan}
 pub use Rattle.flow_propagate.specs.Runs.{Reader}
 
 -- the classes of the flows by dependence, in order
-pub record AreBlocks (p : GtsParts) (blocks : List (List ℕ)) : Type 0 where
+pub record AreFlowClasses (p : GtsParts) (blocks : List (List ℕ)) : Type 0 where
   pub uses : List (ℕ × ℕ)
   pub are : AreUses (net_of p) uses
   pub follow : Follow (flow_count (net_of p).variables) uses [] blocks
@@ -34,13 +34,13 @@ pub record AreGivers (p : GtsParts) (givers : List (ℕ × ℕ)) : Type 0 where
   pub ascending : (j k : ℕ) (q r : ℕ × ℕ) → j < k → Stands givers j q → Stands givers k r → ComesBefore q r
 
 -- a list of the numbers below the count, and of no others
-pub record IsOrder (count : ℕ) (order : List ℕ) : Type 0 where
+pub record IsNumberOrder (count : ℕ) (order : List ℕ) : Type 0 where
   pub all : (n : ℕ) → n < count → IsOneOf order n
   pub below : (n : ℕ) → IsOneOf order n → n < count
 
 -- an order of the assignments, and the place of each of them in it
 pub record IsSchedule (p : GtsParts) (order places : List ℕ) : Type 0 where
-  pub is_order : IsOrder (length p.assigns.items) order
+  pub is_order : IsNumberOrder (length p.assigns.items) order
   pub long : length places ≡ length p.assigns.items
   pub placed : (n place : ℕ) → Stands places n place → Stands order place n
 
@@ -50,7 +50,7 @@ plain_pair r = (r.0.n, r.1.n)
 
 -- the plan of a system
 pub record IsPlan (p : GtsParts) (plan : Plan) : Type 0 where
-  pub blocks : AreBlocks p (map (λ (b : Block). b.members.items) plan.blocks.items)
+  pub blocks : AreFlowClasses p (map (λ (b : Block). b.members.items) plan.blocks.items)
   pub readers : AreReaders p (map plain_pair plan.readers.pairs.items)
   pub givers : AreGivers p (map plain_pair plan.givers.pairs.items)
   pub schedule : IsSchedule p plan.order.items plan.places.items

@@ -12,24 +12,24 @@ use Rattle.gts_core.specs.declared.system.Variable.{Variable}
 use Rattle.gts_core.specs.declared.system.Assign.{Assign}
 use Rattle.gts_core.specs.declared.system.GtsParts.{GtsParts}
 use Rattle.typed_expr.specs.Rows.{Rows}
-use Rattle.flow_propagate.specs.Table.{Holds}
+use Rattle.flow_propagate.specs.Table.{TableHolds}
 
 -- an assignment that is reached and yields a value outside a domain
-pub record Leaves (rows : Rows) (domain : Domain) (a : Assign) : Type 0 where
-  pub passes : PassesConditions (Holds rows) (assign_of a).conditions
+pub record LeavesADomain (rows : Rows) (domain : Domain) (a : Assign) : Type 0 where
+  pub passes : PassesConditions (TableHolds rows) (assign_of a).conditions
   pub value : Value
-  pub yields : Yields (Holds rows) (out-Expr ℕ (assign_of a).value) value
+  pub yields : Yields (TableHolds rows) (out-Expr ℕ (assign_of a).value) value
   pub outside : domains.Holds domain value → ⊥
 
 -- the same for the domain of the assignment's target
-pub record LeavesDomain (p : GtsParts) (rows : Rows) (a : Assign) : Type 0 where
+pub record LeavesTargetDomain (p : GtsParts) (rows : Rows) (a : Assign) : Type 0 where
   pub variable : Variable
   pub stands : Stands p.variables.items a.target.n variable
-  pub leaves : Leaves rows variable.domain a
+  pub leaves : LeavesADomain rows variable.domain a
 
 -- the least target among those of the first so many assignments that have P
-abbrev pub IsLeast : List Assign → ℕ → (Assign → Type 0) → Option ℕ → Type 0
-IsLeast all count P None = (k : ℕ) (a : Assign) → k < count → Stands all k a → P a → ⊥
-IsLeast all count P (Some n) =
+abbrev pub IsLeastTarget : List Assign → ℕ → (Assign → Type 0) → Option ℕ → Type 0
+IsLeastTarget all count P None = (k : ℕ) (a : Assign) → k < count → Stands all k a → P a → ⊥
+IsLeastTarget all count P (Some n) =
     ((k : ℕ) × (a : Assign) × Stands all k a × P a × (a.target.n ≡ n))
     × ((k : ℕ) (a : Assign) → k < count → Stands all k a → P a → n ≤ a.target.n)

@@ -6,7 +6,7 @@ use Rattle.std.specs.List.{list_all}
 use Rattle.gts_core.specs.Readings.{is_met, value_in}
 use Rattle.gts_core.specs.declared.system.Variable.{Variable}
 use Rattle.gts_core.specs.declared.system.Assign.{Assign}
-use Rattle.typed_expr.specs.Rows.{Rows, row_at}
+use Rattle.typed_expr.specs.Rows.{Rows, known_row_at}
 
 -- a state variable keeps its own value, and a flow has its first fact or its reset
 abbrev pub completed_value : Bool → Value → List Value → Value → Value
@@ -19,7 +19,7 @@ pub record Completed (variables : List Variable) (values : List Value) (rows : R
     (total : List Value) : Type 0 where
   pub long : length total ≡ count
   pub value : (n : ℕ) (x : Variable) (v : Value) → n < count → Stands variables n x → Stands values n v
-      → Stands total n (completed_value x.is_state v (row_at rows n) x.value)
+      → Stands total n (completed_value x.is_state v (known_row_at rows n) x.value)
 
 -- whether a row has a value
 abbrev pub has_some : List Value → Bool
@@ -27,9 +27,9 @@ has_some [] = false
 has_some (v ∷ vs) = true
 
 -- the first so many marks tell which rows have a value
-pub record AreMarks (rows : Rows) (count : ℕ) (marks : List Bool) : Type 0 where
+pub record MarkKnownRows (rows : Rows) (count : ℕ) (marks : List Bool) : Type 0 where
   pub long : length marks ≡ count
-  pub mark : (n : ℕ) → n < count → Stands marks n (has_some (row_at rows n))
+  pub mark : (n : ℕ) → n < count → Stands marks n (has_some (known_row_at rows n))
 
 -- the assignment is reached under the total valuation, and its value is not its target's
 pub record Breaks (total : List Value) (a : Assign) : Type 0 where

@@ -7,8 +7,8 @@ ghost use Rattle.gts_core.specs.declared.system.Assign.{Assign};
 ghost use Rattle.ar_base.specs.Lists.{Stands};
 ghost use Rattle.flow_propagate.specs.Plan.{AreReaders, IsSchedule, plain_pair};
 ghost use Rattle.flow_propagate.specs.Table.{AreFacts, Moves, IsClosed};
-ghost use Rattle.flow_propagate.specs.Searches.{IsLeast, LeavesDomain};
-ghost use Rattle.flow_propagate.specs.Closing.{IsWorklist, IsSettled, LooksAt, IsHeard, Hears};
+ghost use Rattle.flow_propagate.specs.Searches.{IsLeastTarget, LeavesTargetDomain};
+ghost use Rattle.flow_propagate.specs.Closing.{IsWorklist, IsWorkSettled, LooksAt, IsHeard, Hears};
 
 use crate::facts::apply;
 use crate::pairs::Runs;
@@ -27,6 +27,31 @@ use std::alloc::Global;
 pub(crate) struct Gathered {
     pub(crate) table: Table,
     pub(crate) outside: Option<u32>,
+}
+
+// The facts of a state.
+pub(crate) fn known(
+    alloc: Global,
+    parts: &GtsParts,
+    plan: &Plan,
+    values: &[Value],
+) -> Result<Gathered, Memory>
+    requires sound { IsSound parts.now }
+    requires readers { AreReaders parts.now (map plain_pair plan.now.readers.pairs.items) }
+    requires schedule { IsSchedule parts.now plan.now.order.items plan.now.places.items }
+    requires long { length values.now ≡ length parts.now.variables.items }
+    ensures facts { IfOk result (λ known.
+        AreFacts (net_of parts.now) values.now known.table.rows.items) }
+    ensures long { IfOk result (λ known.
+        length known.table.rows.items ≡ length parts.now.variables.items) }
+    ensures outside { IfOk result (λ known.
+        IsLeastTarget parts.now.assigns.items (length parts.now.assigns.items)
+        (LeavesTargetDomain parts.now known.table.rows.items) known.outside) }
+{
+    let rows = first_rows(alloc, &parts.variables, values)?;
+    let work = all_waiting(alloc, &plan.order, &plan.places);
+    let known = close(alloc, parts, &plan.readers, work, Table { rows })?;
+    Ok(known)
 }
 
 // Adds what an assignment yields, and notes its target where it yields a value outside the domain; where its target got more
@@ -73,7 +98,7 @@ fn close(
     requires readers { AreReaders parts.now (map plain_pair readers.now.pairs.items) }
     requires long { length table.rows.items ≡ length parts.now.variables.items }
     requires work { IsWorklist (length parts.now.assigns.items) work }
-    requires settled { IsSettled parts.now table.rows.items work }
+    requires settled { IsWorkSettled parts.now table.rows.items work }
     requires heard { IsHeard parts.now table.rows.items None work }
     ensures moves { IfOk result (λ closed.
         Moves (net_of parts.now) table.rows.items closed.table.rows.items) }
@@ -81,8 +106,8 @@ fn close(
         → Stands parts.now.assigns.items n a
         → IsClosed (net_of parts.now) closed.table.rows.items (assign_of a)) }
     ensures outside { IfOk result (λ closed.
-        IsLeast parts.now.assigns.items (length parts.now.assigns.items)
-        (LeavesDomain parts.now closed.table.rows.items) closed.outside) }
+        IsLeastTarget parts.now.assigns.items (length parts.now.assigns.items)
+        (LeavesTargetDomain parts.now closed.table.rows.items) closed.outside) }
 {
     let mut table = table;
     let mut work = work;
@@ -99,29 +124,4 @@ fn close(
         )?;
     }
     Ok(Gathered { table, outside })
-}
-
-// The facts of a state.
-pub(crate) fn known(
-    alloc: Global,
-    parts: &GtsParts,
-    plan: &Plan,
-    values: &[Value],
-) -> Result<Gathered, Memory>
-    requires sound { IsSound parts.now }
-    requires readers { AreReaders parts.now (map plain_pair plan.now.readers.pairs.items) }
-    requires schedule { IsSchedule parts.now plan.now.order.items plan.now.places.items }
-    requires long { length values.now ≡ length parts.now.variables.items }
-    ensures facts { IfOk result (λ known.
-        AreFacts (net_of parts.now) values.now known.table.rows.items) }
-    ensures long { IfOk result (λ known.
-        length known.table.rows.items ≡ length parts.now.variables.items) }
-    ensures outside { IfOk result (λ known.
-        IsLeast parts.now.assigns.items (length parts.now.assigns.items)
-        (LeavesDomain parts.now known.table.rows.items) known.outside) }
-{
-    let rows = first_rows(alloc, &parts.variables, values)?;
-    let work = all_waiting(alloc, &plan.order, &plan.places);
-    let known = close(alloc, parts, &plan.readers, work, Table { rows })?;
-    Ok(known)
 }

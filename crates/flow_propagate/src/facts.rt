@@ -4,9 +4,9 @@ ghost use Rattle.std.specs.Prelude.{true, false, ◌≡◌, ◌<◌, length, IfO
 ghost use Rattle.ar_base.specs.Lists.{IsOneOf};
 ghost use Rattle.domains.specs.Domains.{IsDomain};
 ghost use Rattle.gts_core.specs.Sound.{IsSound};
-ghost use Rattle.flow_propagate.specs.Table.{Puts, PutsAll};
-ghost use Rattle.flow_propagate.specs.Closing.{Applies};
-ghost use Rattle.flow_propagate.specs.Searches.{LeavesDomain};
+ghost use Rattle.flow_propagate.specs.Table.{PutsValue, PutsAll};
+ghost use Rattle.flow_propagate.specs.Closing.{AppliesAssignment};
+ghost use Rattle.flow_propagate.specs.Searches.{LeavesTargetDomain};
 ghost use Rattle.ar_meaning.specs.Found.{IsAnswer};
 
 use crate::searches::some_outside;
@@ -16,12 +16,39 @@ use domains::{Domain, Value};
 use gts_core::{Assign, GtsParts};
 use std::alloc::Global;
 
+// Adds what an assignment yields.
+pub(crate) fn apply(
+    alloc: Global,
+    parts: &GtsParts,
+    assign: &Assign,
+    table: &mut Table,
+) -> Result<Look, Memory>
+    requires sound { IsSound parts.now }
+    requires one { IsOneOf parts.now.assigns.items assign.now }
+    requires long { length table.old.rows.items ≡ length parts.now.variables.items }
+    ensures applies { IfOk result (λ look.
+        AppliesAssignment parts.now assign.now table.old.rows.items table.new.rows.items look.changed) }
+    ensures outside { IfOk result (λ look.
+        IsAnswer look.outside (LeavesTargetDomain parts.now table.old.rows.items assign.now)) }
+{
+    let Some(set) = yielded(alloc, assign, table)? else {
+        return Ok(Look {
+            changed: false,
+            outside: false,
+        });
+    };
+    let domain = &parts.variables[assign.target.n as usize].domain;
+    let outside = some_outside(domain, set.values());
+    let changed = put_all(table, domain, assign.target.n, set.values())?;
+    Ok(Look { changed, outside })
+}
+
 // Puts a value into a variable's row, where the domain has it and the row lacks it, and answers whether the row changed.
 fn put(table: &mut Table, domain: &Domain, target: u32, v: Value) -> Result<bool, Memory>
     requires in_range { target < length table.old.rows.items }
     requires domain { IsDomain domain.now }
     ensures { IfOk result (λ changed.
-        Puts domain.now target v table.old.rows.items table.new.rows.items changed) }
+        PutsValue domain.now target v table.old.rows.items table.new.rows.items changed) }
 {
     if !domain.holds(v) {
         return Ok(false);
@@ -59,31 +86,4 @@ fn put_all(
 pub(crate) struct Look {
     pub(crate) changed: bool,
     pub(crate) outside: bool,
-}
-
-// Adds what an assignment yields.
-pub(crate) fn apply(
-    alloc: Global,
-    parts: &GtsParts,
-    assign: &Assign,
-    table: &mut Table,
-) -> Result<Look, Memory>
-    requires sound { IsSound parts.now }
-    requires one { IsOneOf parts.now.assigns.items assign.now }
-    requires long { length table.old.rows.items ≡ length parts.now.variables.items }
-    ensures applies { IfOk result (λ look.
-        Applies parts.now assign.now table.old.rows.items table.new.rows.items look.changed) }
-    ensures outside { IfOk result (λ look.
-        IsAnswer look.outside (LeavesDomain parts.now table.old.rows.items assign.now)) }
-{
-    let Some(set) = yielded(alloc, assign, table)? else {
-        return Ok(Look {
-            changed: false,
-            outside: false,
-        });
-    };
-    let domain = &parts.variables[assign.target.n as usize].domain;
-    let outside = some_outside(domain, set.values());
-    let changed = put_all(table, domain, assign.target.n, set.values())?;
-    Ok(Look { changed, outside })
 }

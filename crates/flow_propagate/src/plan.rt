@@ -2,7 +2,7 @@
 
 ghost use Rattle.std.specs.Prelude.{map, IfOk};
 ghost use Rattle.gts_core.specs.Sound.{IsSound};
-ghost use Rattle.flow_propagate.specs.Plan.{AreBlocks, AreReaders, IsPlan};
+ghost use Rattle.flow_propagate.specs.Plan.{AreFlowClasses, AreReaders, IsPlan};
 
 use crate::dependence::{dependences, flow_places};
 use crate::pairs::Runs;
@@ -58,7 +58,7 @@ pub fn make_plan(alloc: Global, gts: &Gts) -> Result<Plan, Memory>
 fn classes(alloc: Global, parts: &GtsParts, pairs: &[(u32, u32)]) -> Result<Vec<Block>, Memory>
     requires sound { IsSound parts.now }
     requires readers { AreReaders parts.now pairs.now }
-    ensures { IfOk result (λ classes. AreBlocks parts.now
+    ensures { IfOk result (λ classes. AreFlowClasses parts.now
         (map (λ b. b.members.items) classes.items)) }
 {
     let flows = flow_places(alloc, &parts.variables)?;

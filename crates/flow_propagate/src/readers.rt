@@ -4,7 +4,7 @@ ghost use Rattle.std.specs.Prelude.{◌≡◌, ◌<◌, ◌^◌, ℕ, map, IfOk}
 ghost use Rattle.ar_base.specs.Lists.{IsOneOf, Stands};
 ghost use Rattle.gts_core.specs.Sound.{IsSound};
 ghost use Rattle.flow_propagate.specs.Plan.{ComesBefore, AreReaders, AreGivers, plain_pair};
-ghost use Rattle.flow_propagate.specs.Named.{Ascend};
+ghost use Rattle.flow_propagate.specs.Named.{ArePairsSorted};
 
 use crate::naming::add_readers;
 use crate::pairs::{Runs, starts_of};
@@ -39,7 +39,7 @@ pub(crate) fn givers(alloc: Global, parts: &GtsParts) -> Result<Vec<(u32, u32)>,
 
 // The pairs, ascending, each once.
 fn ascending(pairs: Vec<(u32, u32)>) -> Vec<(u32, u32)>
-    ensures { Ascend pairs.items result.items }
+    ensures { ArePairsSorted pairs.items result.items }
 {
     let mut pairs = pairs;
     pairs.sort_unstable();

@@ -3,7 +3,7 @@
 ghost use Rattle.std.specs.Prelude.{◌≡◌, ℕ, length, IfOk};
 ghost use Rattle.ar_base.specs.Lists.{Stands};
 ghost use Rattle.gts_core.specs.Sound.{IsSound};
-ghost use Rattle.flow_propagate.specs.Plan.{IsOrder, IsSchedule};
+ghost use Rattle.flow_propagate.specs.Plan.{IsNumberOrder, IsSchedule};
 
 use ar_base::{AssignId, Memory, VarId, numbers_below};
 use flow_blocks::Block;
@@ -39,7 +39,7 @@ pub(crate) fn scheduled(
 
 // The place of each number below the count in an order of them.
 fn places_in(alloc: Global, order: &[u32], count: usize) -> Result<Vec<usize>, Memory>
-    requires { IsOrder count order.now }
+    requires { IsNumberOrder count order.now }
     ensures long { IfOk result (λ places. length places.items ≡ count) }
     ensures placed { IfOk result (λ places. (n p : ℕ) → Stands places.items n p
         → Stands order.now p n) }

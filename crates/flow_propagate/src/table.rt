@@ -7,8 +7,8 @@ ghost use Rattle.typed_expr.specs.Kinds.{kind_of};
 ghost use Rattle.ar_meaning.specs.Facts.{PassesConditions};
 ghost use Rattle.ar_meaning.specs.Found.{IsAnswer};
 ghost use Rattle.gts_core.specs.View.{assign_of, condition_of};
-ghost use Rattle.typed_expr.specs.Rows.{row_at, first_of};
-ghost use Rattle.flow_propagate.specs.Table.{Holds, Reaches};
+ghost use Rattle.typed_expr.specs.Rows.{known_row_at, first_of_row};
+ghost use Rattle.flow_propagate.specs.Table.{TableHolds, YieldsFromTable};
 
 use ar_base::{Memory, VarId};
 use domains::Value;
@@ -23,11 +23,11 @@ pub struct Table {
 }
 
 impl Env<VarId> for Table {
-    ghost value_at = { λ t x. first_of (row_at t.rows.items x.n) };
+    ghost value_at = { λ t x. first_of_row (known_row_at t.rows.items x.n) };
 
-    ghost facts_at = { λ t x. row_at t.rows.items x.n };
+    ghost facts_at = { λ t x. known_row_at t.rows.items x.n };
 
-    ghost kind_at = { λ t x. kind_of (first_of (row_at t.rows.items x.n)) };
+    ghost kind_at = { λ t x. kind_of (first_of_row (known_row_at t.rows.items x.n)) };
 
     fn value(&self, v: &VarId) -> Value {
         first_of(self.facts(v))
@@ -49,7 +49,7 @@ pub(crate) fn reached(
     table: &Table,
 ) -> Result<bool, Memory>
     ensures { IfOk result (λ b. IsAnswer b
-        (PassesConditions (Holds table.now.rows.items) (map condition_of conditions.now))) }
+        (PassesConditions (TableHolds table.now.rows.items) (map condition_of conditions.now))) }
 {
     for (test, must) in conditions {
         let set = eval_set(alloc, test, table)?;
@@ -73,7 +73,7 @@ pub(crate) fn yielded(
     assign: &Assign,
     table: &Table,
 ) -> Result<Option<ValueSet>, Memory>
-    ensures { IfOk result (λ o. Reaches table.now.rows.items (assign_of assign.now) o) }
+    ensures { IfOk result (λ o. YieldsFromTable table.now.rows.items (assign_of assign.now) o) }
 {
     let reaches = reached(alloc, &assign.when, table)?;
     if !reaches {

@@ -5,8 +5,8 @@ ghost use Rattle.domains.specs.declared.Value.{Value};
 ghost use Rattle.ar_meaning.specs.Found.{IsAnswer};
 ghost use Rattle.ar_meaning.specs.FoundInside.{IsFirstOrNone};
 ghost use Rattle.gts_core.specs.Sound.{IsSound};
-ghost use Rattle.typed_expr.specs.Rows.{row_at};
-ghost use Rattle.flow_propagate.specs.Totals.{Completed, completed_value, AreMarks, Breaks};
+ghost use Rattle.typed_expr.specs.Rows.{known_row_at};
+ghost use Rattle.flow_propagate.specs.Totals.{Completed, completed_value, MarkKnownRows, Breaks};
 
 use crate::table::Table;
 use ar_base::Memory;
@@ -53,7 +53,7 @@ fn value_for(is_state: bool, own: Value, row: &[Value], reset: Value) -> Value
 
 // Which rows of the table have a value.
 pub(crate) fn marks(alloc: Global, table: &Table) -> Result<Vec<bool>, Memory>
-    ensures { IfOk result (λ marks. AreMarks table.now.rows.items (length table.now.rows.items)
+    ensures { IfOk result (λ marks. MarkKnownRows table.now.rows.items (length table.now.rows.items)
         marks.items) }
 {
     let mut marks = Vec::new(alloc);

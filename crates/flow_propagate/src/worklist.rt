@@ -3,8 +3,8 @@
 ghost use Rattle.std.specs.Prelude.{◌≡◌, ◌≢◌, ◌+◌, ◌<◌, ◌≤◌, ◌⊎◌, ◌↔◌, ℕ, length, IfOk, OnOk, IfSome, IfNone, MatchOption};
 ghost use Rattle.std.specs.BTreeSet.{btree_set_len};
 ghost use Rattle.ar_base.specs.Lists.{IsOneOf, Stands};
-ghost use Rattle.flow_propagate.specs.Plan.{IsOrder, Reader};
-ghost use Rattle.flow_propagate.specs.Closing.{IsWorklist, IsAgain, WaitsAt, Waits, TakesPlace, Takes, AddsWork};
+ghost use Rattle.flow_propagate.specs.Plan.{IsNumberOrder, Reader};
+ghost use Rattle.flow_propagate.specs.Closing.{IsWorklist, IsAddedAgain, WaitsAtPlace, Waits, TakesWorkPlace, TakesAssignment, AddsWork};
 
 use crate::pairs::{Runs, pairs_of};
 use ar_base::{AssignId, Memory, VarId};
@@ -32,7 +32,7 @@ pub(crate) struct Worklist<'a> {
 pub(crate) fn take(work: &mut Worklist<'_>) -> Option<u32>
     requires { IsWorklist (length work.old.places.now) work.old }
     ensures { MatchOption result ((n : ℕ) → Waits work.old n → ⊥)
-        (λ n. Takes (length work.old.places.now) n work.old work.new) }
+        (λ n. TakesAssignment (length work.old.places.now) n work.old work.new) }
 {
     let place = take_place(work)?;
     Some(work.order[place])
@@ -41,8 +41,8 @@ pub(crate) fn take(work: &mut Worklist<'_>) -> Option<u32>
 // Takes the first place that waits.
 fn take_place(work: &mut Worklist<'_>) -> Option<usize>
     requires { IsWorklist (length work.old.places.now) work.old }
-    ensures { MatchOption result ((p : ℕ) → p < length work.old.order.now → WaitsAt work.old p → ⊥)
-        (λ place. TakesPlace place work.old work.new) }
+    ensures { MatchOption result ((p : ℕ) → p < length work.old.order.now → WaitsAtPlace work.old p → ⊥)
+        (λ place. TakesWorkPlace place work.old work.new) }
 {
     if let Some(place) = take_again(&mut work.again) {
         return Some(place);
@@ -57,12 +57,12 @@ fn take_place(work: &mut Worklist<'_>) -> Option<usize>
 
 // Takes the least place of those that were added again.
 fn take_again(again: &mut BTreeSet<usize>) -> Option<usize>
-    ensures some { IfSome result (λ place. IsAgain again.old place) }
-    ensures rest { IfSome result (λ place. (p : ℕ) → IsAgain again.new p
-        ↔ (IsAgain again.old p × (p ≢ place))) }
+    ensures some { IfSome result (λ place. IsAddedAgain again.old place) }
+    ensures rest { IfSome result (λ place. (p : ℕ) → IsAddedAgain again.new p
+        ↔ (IsAddedAgain again.old p × (p ≢ place))) }
     ensures less { IfSome result (λ _. btree_set_len again.old ≡ btree_set_len again.new + 1) }
-    ensures none { IfNone result ((p : ℕ) → IsAgain again.old p → ⊥) }
-    ensures still { IfNone result ((p : ℕ) → IsAgain again.new p → ⊥) }
+    ensures none { IfNone result ((p : ℕ) → IsAddedAgain again.old p → ⊥) }
+    ensures still { IfNone result ((p : ℕ) → IsAddedAgain again.new p → ⊥) }
     ensures few { IfNone result (btree_set_len again.old ≡ btree_set_len again.new) }
 {
     again.pop_first()
@@ -84,8 +84,8 @@ fn add(assign: u32, work: &mut Worklist<'_>) -> Result<(), Memory>
 
 // Adds a place to those that were added again.
 fn add_again(again: &mut BTreeSet<usize>, place: usize) -> Result<(), Memory>
-    ensures all { OnOk result ((p : ℕ) → IsAgain again.new p
-        ↔ (IsAgain again.old p ⊎ (p ≡ place))) }
+    ensures all { OnOk result ((p : ℕ) → IsAddedAgain again.new p
+        ↔ (IsAddedAgain again.old p ⊎ (p ≡ place))) }
     ensures few { OnOk result (btree_set_len again.new ≤ btree_set_len again.old + 1) }
 {
     again.insert(place)?;
@@ -125,7 +125,7 @@ pub(crate) fn add_readers(
 
 // All assignments, none of which was looked at.
 pub(crate) fn all_waiting<'a>(alloc: Global, order: &'a [u32], places: &'a [usize]) -> Worklist<'a>
-    requires order { IsOrder (length places.now) order.now }
+    requires order { IsNumberOrder (length places.now) order.now }
     requires placed { (n place : ℕ) → Stands places.now n place → Stands order.now place n }
     ensures is { IsWorklist (length places.now) result }
     ensures all { (n : ℕ) → n < length places.now → Waits result n }

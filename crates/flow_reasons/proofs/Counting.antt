@@ -3,7 +3,7 @@ use Rattle.std.proofs.Common.{◌≡◌, ◌<◌, ◌≤◌, ℕ, zero, suc, Boo
 use Rattle.ar_base.specs.Lists.{Stands}
 use Rattle.ar_base.proofs.Standing.{stands_none}
 use Rattle.fact_marks.specs.declared.Mark.{Mark}
-use Rattle.fact_marks.specs.Marks.{is_fact, IsOpen}
+use Rattle.fact_marks.specs.Marks.{is_fact, HasNoFact}
 use Rattle.flow_reasons.specs.Marks.{unknown_count}
 
 abbrev one : Mark → ℕ
@@ -24,7 +24,7 @@ count_most [] = omega arith
 count_most (m ∷ ms) = let h = count_most ms in let k = one_most m in omega (arith, h, k)
 
 -- an open one counts
-pub open_counts : (ms : List Mark) (n : ℕ) → IsOpen ms n → 0 < unknown_count ms
+pub open_counts : (ms : List Mark) (n : ℕ) → HasNoFact ms n → 0 < unknown_count ms
 open_counts [] n o = absurd (stands_none n o.mark o.stands)
 open_counts (m ∷ ms) zero o =
     let e : m ≡ o.mark = cc (o.stands) in
@@ -51,8 +51,8 @@ no_more (x ∷ old) (y ∷ new) e k =
     let i = one_less x y (λ i. (let s = k 0 x refl i in cc (s))) in omega (arith, h, i)
 
 -- one that was open and is not any more
-pub fewer : (old new : List Mark) → length new ≡ length old → Keeps old new → (n : ℕ) → IsOpen old n
-    → (IsOpen new n → ⊥)
+pub fewer : (old new : List Mark) → length new ≡ length old → Keeps old new → (n : ℕ) → HasNoFact old n
+    → (HasNoFact new n → ⊥)
     → unknown_count new < unknown_count old
 fewer [] new e k n o c = absurd (stands_none n o.mark o.stands)
 fewer (x ∷ old) [] e k n o c = absurd (omega (arith, e))

@@ -10,7 +10,7 @@ use Rattle.typed_expr.specs.Mentions.{Mentions}
 use Rattle.typed_expr.specs.declared.expr.Expr.{Expr, out-Expr}
 use Rattle.ar_meaning.specs.Systems as s
 use Rattle.flow_reasons.specs.Reasons.{IsReason, derived, reset, AreReasonsFrom, AreReasons, none, state, flow, InCone, named, rested_on}
-use Rattle.flow_reasons.specs.ReasonsInside.{IsCone}
+use Rattle.flow_reasons.specs.ReasonsInside.{IsReasonCone}
 use Rattle.flow_reasons.specs.Reasons as rounds
 use Rattle.flow_reasons.proofs.RoundStanding.{reason_at}
 use Rattle.gts_core.specs.Sound.{IsSound}
@@ -23,7 +23,7 @@ use Rattle.gts_core.specs.Adding.{Adds, HasThose}
 use Rattle.gts_core.proofs.Added.{those_of_empty}
 use Rattle.flow_reasons.specs.Answers.{numbers_of, reason_of, reasons_of}
 use Rattle.flow_propagate.specs.Marks.{AreMarked}
-use Rattle.flow_reasons.specs.Cones.{SeesAll, RestsUpon, AreOrderly, IsReached, begins, follows, AreReached, AreMembers, AreRestsUpon, NamesNumber}
+use Rattle.flow_reasons.specs.Cones.{SeesAll, RestsUpon, AreOrderly, IsVariableReached, begins, follows, AreReachedVariables, AreMembers, AreRestsUpon, NamesNumber}
 use Rattle.flow_reasons.specs.declared.reason.Reason.{Reason}
 
 -- the reason of a variable among those in order
@@ -102,7 +102,7 @@ module _ (reasons : List Reason) (x from count : ℕ) (orderly : AreOrderly coun
 pub record Closing (reasons : List rounds.Reason) (first : List ℕ) (seen : List Bool) (found : List ℕ) (at : ℕ) : Type
     0 where
   pub are : AreMarked seen found
-  pub sound : (n : ℕ) → IsOneOf found n → IsReached reasons first n
+  pub sound : (n : ℕ) → IsOneOf found n → IsVariableReached reasons first n
   pub starts : (n : ℕ) → IsOneOf first n → IsOneOf found n
   pub closed : (j m n : ℕ) → j < at → Stands found j m → RestsUpon reasons m n → IsOneOf found n
 
@@ -138,11 +138,11 @@ module _ (reasons : List rounds.Reason) (first : List ℕ) where
   }
 
   pub closing_done : (seen : List Bool) (found : List ℕ) (at : ℕ)
-      → length found ≤ at → Closing reasons first seen found at → AreReached reasons first seen
+      → length found ≤ at → Closing reasons first seen found at → AreReachedVariables reasons first seen
   closing_done seen found at l c = record
       { sound = λ n s. c.sound n ((c.are.each n).1 s); whole = λ n h. (c.are.each n).0 (back h) }
     where
-      back : {n : ℕ} → IsReached reasons first n → IsOneOf found n
+      back : {n : ℕ} → IsVariableReached reasons first n → IsOneOf found n
       back {n = n} (begins o) = c.starts n o
       back {n = n} (follows {m = m} h r) =
           let o = back h in
@@ -150,7 +150,7 @@ module _ (reasons : List rounds.Reason) (first : List ℕ) where
           c.closed o.place m n (omega (arith, l, w)) o.stands r
 
   pub reached_below : (count : ℕ) → ((n : ℕ) → IsOneOf first n → n < count) → AreOrderly count reasons → {n : ℕ}
-      → IsReached reasons first n → n < count
+      → IsVariableReached reasons first n → n < count
   reached_below count below orderly {n = n} (begins o) = below n o
   reached_below count below orderly {n = n} (follows h r) = orderly.below r.reason n r.is_one r.rests
 
@@ -213,7 +213,7 @@ module _ (p : GtsParts) (sound : IsSound p) (o : Observer) (is_one : IsOneOf p.o
       let h = (names n).0 i in
       subst (λ z. z < length p.variables.items) h.is ((sound.observers o is_one).variables h.variable h.names)
 
-  into_cone : {n : ℕ} → IsReached reasons first n → InCone (net_of p) reasons (numbered o.value) n
+  into_cone : {n : ℕ} → IsVariableReached reasons first n → InCone (net_of p) reasons (numbered o.value) n
   into_cone {n = n} (begins i) =
       let h = (names n).0 i in
       let x = stands_some p.variables.items n (first_below n i) in
@@ -223,7 +223,7 @@ module _ (p : GtsParts) (sound : IsSound p) (o : Observer) (is_one : IsOneOf p.o
   into_cone (follows h r) = rested_on r.reason r.is_one
       (subst (λ z. InCone (net_of p) reasons (numbered o.value) z) (sym r.is_flow) (into_cone h)) r.rests
 
-  from_cone : {n : ℕ} → InCone (net_of p) reasons (numbered o.value) n → IsReached reasons first n
+  from_cone : {n : ℕ} → InCone (net_of p) reasons (numbered o.value) n → IsVariableReached reasons first n
   from_cone {n = n} (named x st m) =
       let e : x.key ≡ n = (are_numbered p).key n x st in
       let k = mentions_back x.key o.value m in
@@ -232,8 +232,8 @@ module _ (p : GtsParts) (sound : IsSound p) (o : Observer) (is_one : IsOneOf p.o
 
   pub is_cone : (seen : List Bool) (members : List ℕ) → length seen ≡ length p.variables.items
       → AreOrderly (length p.variables.items) reasons
-      → AreReached reasons first seen → AreMembers seen (length seen) members
-      → IsCone (net_of p) reasons (numbered o.value) members
+      → AreReachedVariables reasons first seen → AreMembers seen (length seen) members
+      → IsReasonCone (net_of p) reasons (numbered o.value) members
   is_cone seen members long order reached are = record {
     ascends = are.ascends;
     sound = λ n i. into_cone (reached.sound n ((are.each n).0 i).1);

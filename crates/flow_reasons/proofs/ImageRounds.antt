@@ -3,7 +3,7 @@ use Rattle.std.proofs.Common.{ℕ, zero, suc, List, inl, inr, sym, ◌∙◌, su
 use Rattle.ar_base.specs.Lists.{Along}
 use Rattle.ar_base.specs.Lists as l
 use Rattle.domains.specs.declared.Value.{Value}
-use Rattle.typed_expr.specs.PairsInside.{turned}
+use Rattle.typed_expr.specs.PairsInside.{turned_pairs}
 use Rattle.typed_expr.specs.declared.expr.Expr.{Expr}
 use Rattle.typed_expr.proofs.Renaming.{carries, Mentioned, mentions_carry}
 use Rattle.ar_meaning.specs.Systems.{Assign, Variable, Net}
@@ -63,7 +63,7 @@ module _ {V W : Type 0} (same : V → W → Type 0) (A : Net V) (B : Net W) (ima
       }
 
 module _ {V W : Type 0} (same : V → W → Type 0) (A : Net V) (B : Net W) (image : IsNetImage same A B) where
-  abbrev behind : IsNetImage (turned same) B A
+  abbrev behind : IsNetImage (turned_pairs same) B A
   behind = net_turned same image
 
   derived_there : (t : List Value) (x : Variable V) (y : Variable W) → Variable_renames same x y → (r : Reason)
@@ -73,7 +73,7 @@ module _ {V W : Type 0} (same : V → W → Type 0) (A : Net V) (B : Net W) (ima
       record {
         before = d.before;
         round = d.round;
-        not_yet = λ h. d.not_yet (round_there (turned same) B A behind t d.before y.key x.key r.value q.key h);
+        not_yet = λ h. d.not_yet (round_there (turned_pairs same) B A behind t d.before y.key x.key r.value q.key h);
         assertion = d.assertion;
         by = d.by;
         first = record {
@@ -85,15 +85,15 @@ module _ {V W : Type 0} (same : V → W → Type 0) (A : Net V) (B : Net W) (ima
           before = λ k b l s h.
               let o = partner behind.assertions k b s in
               d.first.before k o.item l o.stands
-              (adds_there (turned same) B A behind (Round B t d.before) (Round A t d.before)
-              (λ y x v s h. round_there (turned same) B A behind t d.before y x v s h) y.key x.key r.value q.key b
+              (adds_there (turned_pairs same) B A behind (Round B t d.before) (Round A t d.before)
+              (λ y x v s h. round_there (turned_pairs same) B A behind t d.before y x v s h) y.key x.key r.value q.key b
               o.item o.related h);
         };
         rests_on = record {
           ascends = d.rests_on.ascends;
           sound = λ n o. named_there same A B image t d.before d.first.item p.item p.related n (d.rests_on.sound n o);
           whole = λ n h. d.rests_on.whole n
-              (named_there (turned same) B A behind t d.before p.item d.first.item
+              (named_there (turned_pairs same) B A behind t d.before p.item d.first.item
               (assign_turned same d.first.item p.item p.related) n h);
         };
       }
@@ -102,7 +102,7 @@ module _ {V W : Type 0} (same : V → W → Type 0) (A : Net V) (B : Net W) (ima
       → IsReason A t x r → IsReason B t y r
   reason_there t x y q r (derived d) = derived (derived_there t x y q r d)
   reason_there t x y q r (reset d) = reset (record {
-    no_fact = λ v f. d.no_fact v (fact_there (turned same) B A behind t y.key x.key v q.key f);
+    no_fact = λ v f. d.no_fact v (fact_there (turned_pairs same) B A behind t y.key x.key v q.key f);
     value = d.value ∙ q.value;
     round = d.round;
     by = d.by;

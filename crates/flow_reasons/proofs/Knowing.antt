@@ -13,18 +13,18 @@ use Rattle.typed_expr.specs.YieldsInside.{facts_of}
 use Rattle.typed_expr.specs.declared.expr.Expr.{Expr, out-Expr}
 use Rattle.ar_meaning.specs.Facts.{PassesConditions, none, one_and}
 use Rattle.ar_meaning.specs.Found.{IsAnswer}
-use Rattle.gts_core.specs.Readings.{values_at, one_or_none}
+use Rattle.gts_core.specs.Readings.{valuation_values, one_or_none}
 use Rattle.gts_core.specs.View.{numbered, condition_of, assign_of}
 use Rattle.gts_core.specs.declared.system.Assign.{Assign}
 use Rattle.gts_core.proofs.Numbering.{yields_numbered, yields_back}
 use Rattle.gts_core.proofs.Tests.{turned_answer}
 use Rattle.fact_marks.specs.declared.Mark.{Mark}
-use Rattle.fact_marks.specs.Marks.{is_fact, is_fact_found, IsOpen}
-use Rattle.flow_reasons.specs.Marks.{known_at, Known}
+use Rattle.fact_marks.specs.Marks.{is_fact, is_fact_found, HasNoFact}
+use Rattle.flow_reasons.specs.Marks.{fact_value_at, Known}
 use Rattle.flow_reasons.specs.Bringing.{Brings}
 
 -- what is read is known
-pub known_there : (values : List Value) (marks : List Mark) (n : ℕ) (v : Value) → Contains (known_at values marks n) v
+pub known_there : (values : List Value) (marks : List Mark) (n : ℕ) (v : Value) → Contains (fact_value_at values marks n) v
     → Known values marks n v
 known_there values marks n v h = at_mark (slice_get marks n) refl h
   where
@@ -37,35 +37,35 @@ known_there values marks n v h = at_mark (slice_get marks n) refl h
     ]
 
     at_fact : (m : Mark) → slice_get marks n ≡ Some m → (b : Bool) → is_fact m ≡ b
-        → Contains (if b then values_at values n else []) v
+        → Contains (if b then valuation_values values n else []) v
         → Known values marks n v
     at_fact m s true i c = at_value m s i (slice_get values n) refl c
     at_fact m s false i c = absurd (nothing-in v c)
 
     at_mark : (o : Option Mark) → slice_get marks n ≡ o
-        → Contains (if is_fact_found o then values_at values n else []) v
+        → Contains (if is_fact_found o then valuation_values values n else []) v
         → Known values marks n v
     at_mark None s c = absurd (nothing-in v c)
     at_mark (Some m) s c = at_fact m s (is_fact m) refl c
 
 -- what is known is read
 pub known_back : (values : List Value) (marks : List Mark) (n : ℕ) (v : Value) → Known values marks n v
-    → Contains (known_at values marks n) v
+    → Contains (fact_value_at values marks n) v
 known_back values marks n v k =
-    let P : Option Mark → Type 0 = λ o. Contains (if is_fact_found o then values_at values n else []) v in
-    let Q : Bool → Type 0 = λ b. Contains (if b then values_at values n else []) v in
+    let P : Option Mark → Type 0 = λ o. Contains (if is_fact_found o then valuation_values values n else []) v in
+    let Q : Bool → Type 0 = λ b. Contains (if b then valuation_values values n else []) v in
     let R : Option Value → Type 0 = λ o. Contains (one_or_none o) v in
     subst P (sym k.stands) (subst Q (sym k.is) (subst R (sym k.value) (contains-head v [])))
 
 module _ (values : List Value) (marks : List Mark) where
   -- the set of what the expression yields is that of its form over plain numbers
   pub tells : (e : Expr VarId) (set : List Value)
-      → HasExactly set (Yields (facts_of (λ (x : VarId). known_at values marks x.n)) (out-Expr VarId e))
+      → HasExactly set (Yields (facts_of (λ (x : VarId). fact_value_at values marks x.n)) (out-Expr VarId e))
       → HasExactly set (Yields (Known values marks) (out-Expr ℕ (numbered e)))
   tells e set h = record {
-    sound = λ v c. yields_numbered (facts_of (λ (x : VarId). known_at values marks x.n)) (Known values marks) e v
+    sound = λ v c. yields_numbered (facts_of (λ (x : VarId). fact_value_at values marks x.n)) (Known values marks) e v
         (λ x w f. known_there values marks x.n w f) (h.sound v c);
-    complete = λ v y. h.complete v (yields_back (facts_of (λ (x : VarId). known_at values marks x.n))
+    complete = λ v y. h.complete v (yields_back (facts_of (λ (x : VarId). fact_value_at values marks x.n))
         (Known values marks) e v (λ x w f. known_back values marks x.n w f) y);
   }
 
@@ -117,7 +117,7 @@ module _ (values : List Value) (marks : List Mark) where
       (sym e) none)
 
   -- the answer for an assignment that is reached
-  pub brings_answer : (a : Assign) (set : List Value) (v : Value) (b : Bool) → IsOpen marks a.target.n
+  pub brings_answer : (a : Assign) (set : List Value) (v : Value) (b : Bool) → HasNoFact marks a.target.n
       → Stands values a.target.n v
       → PassesConditions (Known values marks) (assign_of a).conditions
       → HasExactly set (Yields (Known values marks) (out-Expr ℕ (numbered a.value))) → IsAnswer b (Contains set v)

@@ -24,7 +24,7 @@ use Rattle.gts_core.proofs.Viewing.{variable_there, variables_long, are_numbered
 use Rattle.flow_propagate.specs.Plan.{AreReaders}
 use Rattle.flow_reasons.specs.Answers.{numbers_of, reason_of, reasons_of}
 use Rattle.fact_marks.specs.Marks.{is_fact}
-use Rattle.flow_reasons.specs.Marks.{IsStanding, IsAddedIn, Says, AreLastMarks}
+use Rattle.flow_reasons.specs.Marks.{IsStanding, IsAddedIn, MarkSays, AreLastMarks}
 use Rattle.flow_reasons.specs.Resting.{came_before, IsRestRow, HaveRests, reason_made}
 use Rattle.fact_marks.specs.declared.Mark.{Mark}
 use Rattle.fact_marks.specs.declared.Mark.TheVariants.{Unknown, Given, Added}
@@ -73,7 +73,7 @@ module _ (p : GtsParts) (sound : IsSound p) (values : List Value) (standing : Is
       y : (y : Variable) × Stands p.variables.items x y
       y = let l = stands_within marks x m sm in stands_some p.variables.items x (omega (arith, l, last.are.long))
 
-      go : (m : Mark) → Says p values x y.0 w m → came_before m (suc k) ≡ true → Round net values k x w
+      go : (m : Mark) → MarkSays p values x y.0 w m → came_before m (suc k) ≡ true → Round net values k x w
       go Unknown h c = absurd (cc c)
       go Given h c = round_grows net values 0 k (omega arith) x w
           (given_from net (are_numbered p) values x (variable_of x y.0) w (variable_there p x y.0 y.1) h sv)
@@ -89,7 +89,7 @@ module _ (p : GtsParts) (sound : IsSound p) (values : List Value) (standing : Is
       y : (y : Variable) × Stands p.variables.items x y
       y = let l = stands_within marks x m sm in stands_some p.variables.items x (omega (arith, l, last.are.long))
 
-      go : (m : Mark) → Says p values x y.0 w m → is_fact m ≡ true → came_before m (suc k) ≡ true
+      go : (m : Mark) → MarkSays p values x y.0 w m → is_fact m ≡ true → came_before m (suc k) ≡ true
       go Unknown h i = absurd (cc i)
       go Given h i = refl
       go (Added r' a) h i =
@@ -156,7 +156,7 @@ module _ (p : GtsParts) (sound : IsSound p) (values : List Value) (standing : Is
       → IsReason net values (variable_of n x) (reason_made n v m row.items)
   is_reason n x v m row sx f sv sm pairs readers rests = go m sm (last.are.says n x v m sx sv sm)
     where
-      go : (m : Mark) → Stands marks n m → Says p values n x v m
+      go : (m : Mark) → Stands marks n m → MarkSays p values n x v m
           → IsReason net values (variable_of n x) (reason_made n v m row.items)
       go Unknown sm says =
           let nothing : (w : Value) → FactOf net values n w → ⊥ = λ w g.

@@ -15,7 +15,7 @@ use Rattle.flow_reasons.specs.Answers.{numbers_of}
 use Rattle.fact_marks.specs.Marks.{IsTo}
 use Rattle.fact_marks.specs.declared.Mark.{Mark}
 use Rattle.fact_marks.specs.declared.Mark.TheVariants.{Unknown, Given, Added}
-use Rattle.flow_reasons.specs.Resting.{came_before, IsRest, HasRest, IsRestRow, AreRests, IsMarkedRest, added, AreEmpty, AddsRest}
+use Rattle.flow_reasons.specs.Resting.{came_before, IsReasonRest, HasRest, IsRestRow, AreRests, IsMarkedRest, added, AreEmpty, AddsRest}
 use Rattle.fact_marks.proofs.Placing.{set_here, set_back, take_stands, pushed_cases, pushed_old, pushed_last, ascends_none}
 
 -- whether the assignment added the first fact and the other one came before
@@ -46,7 +46,7 @@ module _ (p : GtsParts) (marks : List Mark) where
   }
 
   -- what a rest of the reason says of the marks
-  rest_marked : (n x a : ℕ) (m o : Mark) → Stands marks n m → Stands marks x o → IsRest p marks n x a
+  rest_marked : (n x a : ℕ) (m o : Mark) → Stands marks n m → Stands marks x o → IsReasonRest p marks n x a
       → IsMarkedRest m a o
   rest_marked n x a m o sm so r =
       let e = stands_one marks n (Added r.round r.by) m r.added sm in
@@ -55,7 +55,7 @@ module _ (p : GtsParts) (marks : List Mark) where
       (subst (λ (z : Mark). IsMarkedRest (Added r.round r.by) a z) f (added r.is_by r.before))
 
   marked_rest : (n x a : ℕ) (m o : Mark) → IsTo p a n → Stands marks n m → Stands marks x o → IsMarkedRest m a o
-      → IsRest p marks n x a
+      → IsReasonRest p marks n x a
   marked_rest n x a (Added round by) o t sm so (added e i) =
       record { is_to = t; round = round; by = by; added = sm; is_by = e; other = o; stands = so; before = i }
   marked_rest n x a Unknown o t sm so h = elim h [ ]
@@ -84,12 +84,12 @@ module _ (p : GtsParts) (marks : List Mark) where
 
     -- a rest by the pairs with the new one
     rest_cases : (n y : ℕ) → HasRest p marks (done ++ (x, a) ∷ []) n y
-        → HasRest p marks done n y ⊎ ((x ≡ y) × IsRest p marks n y a)
+        → HasRest p marks done n y ⊎ ((x ≡ y) × IsReasonRest p marks n y a)
     rest_cases n y h = elim (pushed_cases done (x, a) (y, h.assign) h.pair) [
       | inl o ↦ inl (record { assign = h.assign; pair = o; is = h.is })
       | inr e ↦ (let e0 : x ≡ y = ap (λ (z : ℕ × ℕ). z.0) e in
           let e1 : a ≡ h.assign = ap (λ (z : ℕ × ℕ). z.1) e in
-          inr (e0, subst (λ z. IsRest p marks n y z) (sym e1) h.is))
+          inr (e0, subst (λ z. IsReasonRest p marks n y z) (sym e1) h.is))
     ]
 
     other_row : (n : ℕ) (row : Vec VarId Global) → (n ≡ assign.target.n → ⊥) → Stands old n row
@@ -105,7 +105,7 @@ module _ (p : GtsParts) (marks : List Mark) where
         }
 
     -- what was gathered for the target is less than the new variable
-    earlier : (y : ℕ) → HasRest p marks done assign.target.n y → IsRest p marks assign.target.n x a → y < x
+    earlier : (y : ℕ) → HasRest p marks done assign.target.n y → IsReasonRest p marks assign.target.n x a → y < x
     earlier y h r =
         let s = take_stands i pairs h.pair.place (y, h.assign) h.pair.stands in
         let e = stands_one marks assign.target.n (Added h.is.round h.is.by) (Added r.round r.by) h.is.added r.added in
@@ -152,7 +152,7 @@ module _ (p : GtsParts) (marks : List Mark) where
                   λ h. elim (rest_cases assign.target.n y h) [
                     | inl w ↦ (r.each y).1 w
                     | inr w ↦ absurd (k (rest_marked assign.target.n x a m.0 o.0 m.1 o.1
-                        (subst (λ z. IsRest p marks assign.target.n z a) (sym w.0) w.1)))
+                        (subst (λ z. IsReasonRest p marks assign.target.n z a) (sym w.0) w.1)))
                   ],
                 );
               }))

@@ -26,18 +26,18 @@ use Rattle.flow_propagate.specs.Plan.{AreReaders}
 use Rattle.flow_propagate.proofs.Looking.{one_or_not}
 use Rattle.fact_marks.specs.declared.Mark.{Mark}
 use Rattle.fact_marks.specs.declared.Mark.TheVariants.{Unknown, Given, Added}
-use Rattle.fact_marks.specs.Marks.{is_fact, IsOpen, IsMarkedBy, MarksAll}
-use Rattle.flow_reasons.specs.Marks.{unknown_count, Known, IsStanding, IsAddedIn, Says, AreMarks, AreLastMarks, first_mark_of, first_marks_of}
+use Rattle.fact_marks.specs.Marks.{is_fact, HasNoFact, IsMarkedBy, MarksAll}
+use Rattle.flow_reasons.specs.Marks.{unknown_count, Known, IsStanding, IsAddedIn, MarkSays, AreRoundMarks, AreLastMarks, first_mark_of, first_marks_of}
 use Rattle.flow_reasons.specs.Bringing.{Brings, BringsAt, BringAll, NameOne}
 use Rattle.flow_reasons.proofs.Counting.{fewer}
 use Rattle.fact_marks.proofs.Marking.{open_not}
 use Rattle.flow_reasons.proofs.Standing.{fact_stands, value_allowed, at_number}
 
 -- a mark that is a fact or not
-fact_or_open : (marks : List Mark) (n : ℕ) (m : Mark) → Stands marks n m → (is_fact m ≡ true) ⊎ IsOpen marks n
+fact_or_open : (marks : List Mark) (n : ℕ) (m : Mark) → Stands marks n m → (is_fact m ≡ true) ⊎ HasNoFact marks n
 fact_or_open marks n m st = go (is_fact m) refl
   where
-    go : (b : Bool) → is_fact m ≡ b → (is_fact m ≡ true) ⊎ IsOpen marks n
+    go : (b : Bool) → is_fact m ≡ b → (is_fact m ≡ true) ⊎ HasNoFact marks n
     go true e = inl e
     go false e = inr (record { mark = m; stands = st; is = e })
 
@@ -56,14 +56,14 @@ module _ (p : GtsParts) (sound : IsSound p) (values : List Value) (standing : Is
       go true e = e
       go false e = let j = ap is_fact (first_is x false e) in absurd (cc (i, j))
 
-  first_says : (n : ℕ) (x : Variable) (v : Value) → Says p values n x v (first_mark_of x)
+  first_says : (n : ℕ) (x : Variable) (v : Value) → MarkSays p values n x v (first_mark_of x)
   first_says n x v = go x.is_state refl
     where
-      go : (b : Bool) → x.is_state ≡ b → Says p values n x v (first_mark_of x)
-      go true e = subst (λ (z : Mark). Says p values n x v z) (sym (first_is x true e)) e
-      go false e = subst (λ (z : Mark). Says p values n x v z) (sym (first_is x false e)) e
+      go : (b : Bool) → x.is_state ≡ b → MarkSays p values n x v (first_mark_of x)
+      go true e = subst (λ (z : Mark). MarkSays p values n x v z) (sym (first_is x true e)) e
+      go false e = subst (λ (z : Mark). MarkSays p values n x v z) (sym (first_is x false e)) e
 
-  pub marks_zero : AreMarks p values 0 (first_marks_of p.variables.items)
+  pub marks_zero : AreRoundMarks p values 0 (first_marks_of p.variables.items)
   marks_zero = record {
     long = length-map p.variables.items first_mark_of;
     sound = λ n v k.
@@ -83,11 +83,11 @@ module _ (p : GtsParts) (sound : IsSound p) (values : List Value) (standing : Is
     says = λ n x v m sx sv sm.
         let b = stands_map_back first_mark_of p.variables.items n m sm in
         let e = stands_one p.variables.items n b.0 x b.1 sx in
-        subst (λ (z : Mark). Says p values n x v z) (ap first_mark_of (sym e) ∙ b.2) (first_says n x v);
+        subst (λ (z : Mark). MarkSays p values n x v z) (ap first_mark_of (sym e) ∙ b.2) (first_says n x v);
   }
 
   -- what is known after some rounds
-  module _ (k : ℕ) (old : List Mark) (are : AreMarks p values k old) where
+  module _ (k : ℕ) (old : List Mark) (are : AreRoundMarks p values k old) where
     known_round : (x : ℕ) (w : Value) → Known values old x w → Round net values k x w
     known_round x w h = are.sound x w h
 
@@ -104,7 +104,7 @@ module _ (p : GtsParts) (sound : IsSound p) (values : List Value) (standing : Is
     -- an assignment that adds to an open variable brings something
     pub adds_brings : (j : ℕ) (a : Assign) → Stands p.assigns.items j a → (n : ℕ) (v : Value)
         → AddsFact net (Round net values k) n v (assign_of a)
-        → IsOpen old n → BringsAt p values old j
+        → HasNoFact old n → BringsAt p values old j
     adds_brings j a st n v h o =
         let e : a.target.n ≡ n = h.is_target in
         let fact = added_fact net values (Round net values k) (round_fact net values k) n v
@@ -118,7 +118,7 @@ module _ (p : GtsParts) (sound : IsSound p) (values : List Value) (standing : Is
           assign = a;
           stands = st;
           brings = record {
-            is_open = subst (λ z. IsOpen old z) (sym e) o;
+            is_open = subst (λ z. HasNoFact old z) (sym e) o;
             value = v;
             is_value = subst (λ z. Stands values z v) (sym e) (fact_stands p sound values standing n v fact);
             passes = passes_more ℕ (Round net values k) (Known values old) are.whole h.passes;
@@ -127,11 +127,11 @@ module _ (p : GtsParts) (sound : IsSound p) (values : List Value) (standing : Is
         }
 
     -- an open variable is a flow
-    open_flow : (n : ℕ) (x : Variable) (v : Value) → Stands p.variables.items n x → Stands values n v → IsOpen old n
+    open_flow : (n : ℕ) (x : Variable) (v : Value) → Stands p.variables.items n x → Stands values n v → HasNoFact old n
         → x.is_state ≡ false
     open_flow n x v sx sv o = go o.mark o.is (are.says n x v o.mark sx sv o.stands)
       where
-        go : (m : Mark) → is_fact m ≡ false → Says p values n x v m → x.is_state ≡ false
+        go : (m : Mark) → is_fact m ≡ false → MarkSays p values n x v m → x.is_state ≡ false
         go Unknown i says = says
         go Given i says = absurd (cc i)
         go (Added r a) i says = absurd (cc i)
@@ -143,7 +143,7 @@ module _ (p : GtsParts) (sound : IsSound p) (values : List Value) (standing : Is
       known_more : (n : ℕ) (v : Value) → Known values old n v → Known values new n v
       known_more n v h = record { mark = h.mark; stands = d.kept n h.mark h.stands h.is; is = h.is; value = h.value }
 
-      open_before : (n : ℕ) → IsOpen new n → IsOpen old n
+      open_before : (n : ℕ) → HasNoFact new n → HasNoFact old n
       open_before n o =
           let l = stands_within new n o.mark o.stands in
           let m = stands_some old n (omega (arith, l, d.long)) in
@@ -198,14 +198,14 @@ module _ (p : GtsParts) (sound : IsSound p) (values : List Value) (standing : Is
           ]
 
       says_next : (n : ℕ) (x : Variable) (v : Value) (m : Mark) → Stands p.variables.items n x → Stands values n v
-          → Stands new n m → Says p values n x v m
+          → Stands new n m → MarkSays p values n x v m
       says_next n x v m sx sv sm = elim (d.only n m sm) [
         | inl q ↦ are.says n x v m sx sv q
-        | inr q ↦ subst (λ (z : Mark). Says p values n x v z) (sym q.1.1.is)
+        | inr q ↦ subst (λ (z : Mark). MarkSays p values n x v z) (sym q.1.1.is)
             (open_flow n x v sx sv q.0, added q.0 q.1.1)
       ]
         where
-          added : IsOpen old n → (q : IsMarkedBy p found round n m) → IsAddedIn p values n v round q.by.n
+          added : HasNoFact old n → (q : IsMarkedBy p found round n m) → IsAddedIn p values n v round q.by.n
           added o q =
               let r = marked_adds n m v q sv in
               record {
@@ -226,8 +226,8 @@ module _ (p : GtsParts) (sound : IsSound p) (values : List Value) (standing : Is
                 };
               }
 
-      pub marks_more : AreMarks p values round new
-      marks_more = subst (λ z. AreMarks p values z new) (sym is_round)
+      pub marks_more : AreRoundMarks p values round new
+      marks_more = subst (λ z. AreRoundMarks p values z new) (sym is_round)
           (record { long = d.long ∙ are.long; sound = sound_next; whole = whole_next; says = says_next })
 
       module _ (pairs : List (ℕ × ℕ)) (readers : AreReaders p pairs) (n : ℕ) (b : BringsAt p values new n)

@@ -7,7 +7,7 @@ use Rattle.ar_base.proofs.Standing.{at_most, stands_one, stands_none, stands_lef
 use Rattle.ar_base.proofs.Sets.{ascends_push}
 use Rattle.flow_reasons.specs.Answers.{numbers_of}
 use Rattle.flow_propagate.specs.Marks.{AreMarked}
-use Rattle.flow_reasons.specs.Cones.{unseen, SeesAll, Sees, AreMembers}
+use Rattle.flow_reasons.specs.Cones.{unseen, SeesAll, SeesVariable, AreMembers}
 use Rattle.fact_marks.proofs.Placing.{set_here, set_other, set_back, pushed_cases, pushed_old, pushed_last, ascends_none}
 
 -- nothing more was seen
@@ -23,7 +23,7 @@ sees_none seen found are = record {
 
 -- a variable that was seen before
 pub sees_again : (n : ℕ) (seen : List Bool) (found : List ℕ) → AreMarked seen found → Stands seen n true
-    → Sees n seen seen found found
+    → SeesVariable n seen seen found found
 sees_again n seen found are s = record {
   long = refl;
   are = are;
@@ -44,8 +44,8 @@ unseen_set (b ∷ seen) (suc n) s = let h = unseen_set seen n s in omega (arith,
 -- a variable that was not seen before
 pub sees_new : (n : ℕ) (seen : List Bool) (found new : List ℕ) → AreMarked seen found → n < length seen
     → Stands seen n false → new ≡ found ++ n ∷ []
-    → Sees n seen (set seen n true) found new
-sees_new n seen found new are l s e = subst (λ (z : List ℕ). Sees n seen (set seen n true) found z) (sym e) (record {
+    → SeesVariable n seen (set seen n true) found new
+sees_new n seen found new are l s e = subst (λ (z : List ℕ). SeesVariable n seen (set seen n true) found z) (sym e) (record {
   long = length-set seen n true;
   are = record {
     each = λ m. (
@@ -79,7 +79,7 @@ sees_new n seen found new are l s e = subst (λ (z : List ℕ). Sees n seen (set
 -- one variable more
 pub sees_next : (xs ys : List ℕ) (x : ℕ) (seen next last : List Bool) (found more all : List ℕ) → ys ≡ xs ++ x ∷ []
     → SeesAll xs seen next found more
-    → Sees x next last more all → SeesAll ys seen last found all
+    → SeesVariable x next last more all → SeesAll ys seen last found all
 sees_next xs ys x seen next last found more all e a b =
     subst (λ (z : List ℕ). SeesAll z seen last found all) (sym e) (record {
       long = b.long ∙ a.long;

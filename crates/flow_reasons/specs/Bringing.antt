@@ -11,12 +11,12 @@ use Rattle.gts_core.specs.View.{net_of, assign_of}
 use Rattle.gts_core.specs.declared.system.Assign.{Assign}
 use Rattle.gts_core.specs.declared.system.GtsParts.{GtsParts}
 use Rattle.fact_marks.specs.declared.Mark.{Mark}
-use Rattle.fact_marks.specs.Marks.{IsOpen}
+use Rattle.fact_marks.specs.Marks.{HasNoFact}
 use Rattle.flow_reasons.specs.Marks.{Known}
 
 -- the assignment is reached from what is known and yields the value of its target, which has no fact yet
 pub record Brings (values : List Value) (marks : List Mark) (a : Assign) : Type 0 where
-  pub is_open : IsOpen marks a.target.n
+  pub is_open : HasNoFact marks a.target.n
   pub value : Value
   pub is_value : Stands values a.target.n value
   pub passes : PassesConditions (Known values marks) (assign_of a).conditions

@@ -35,18 +35,18 @@ pub record AreOrderly (count : ℕ) (reasons : List rounds.Reason) : Type 0 wher
   pub below : (r : rounds.Reason) (n : ℕ) → IsOneOf reasons r → IsOneOf r.rests_on n → n < count
 
 -- the variable is one of the first, or the reason of one that is reached rests on it
-pub data IsReached (reasons : List rounds.Reason) (first : List ℕ) : ℕ → Type 0 where
-  begins : {n : ℕ} → IsOneOf first n → IsReached reasons first n
-  follows : {m n : ℕ} → IsReached reasons first m → RestsUpon reasons m n → IsReached reasons first n
+pub data IsVariableReached (reasons : List rounds.Reason) (first : List ℕ) : ℕ → Type 0 where
+  begins : {n : ℕ} → IsOneOf first n → IsVariableReached reasons first n
+  follows : {m n : ℕ} → IsVariableReached reasons first m → RestsUpon reasons m n → IsVariableReached reasons first n
 
 -- the variables that were seen are those that are reached
-pub record AreReached (reasons : List rounds.Reason) (first : List ℕ) (seen : List Bool) : Type 0 where
-  pub sound : (n : ℕ) → Stands seen n true → IsReached reasons first n
-  pub whole : (n : ℕ) → IsReached reasons first n → Stands seen n true
+pub record AreReachedVariables (reasons : List rounds.Reason) (first : List ℕ) (seen : List Bool) : Type 0 where
+  pub sound : (n : ℕ) → Stands seen n true → IsVariableReached reasons first n
+  pub whole : (n : ℕ) → IsVariableReached reasons first n → Stands seen n true
 
 -- the variable was seen, too
-abbrev pub Sees : ℕ → List Bool → List Bool → List ℕ → List ℕ → Type 0
-Sees n seen seen_then found found_then = SeesAll (n ∷ []) seen seen_then found found_then
+abbrev pub SeesVariable : ℕ → List Bool → List Bool → List ℕ → List ℕ → Type 0
+SeesVariable n seen seen_then found found_then = SeesAll (n ∷ []) seen seen_then found found_then
 
 -- of the first so many variables those that were seen, by number
 pub record AreMembers (seen : List Bool) (count : ℕ) (members : List ℕ) : Type 0 where

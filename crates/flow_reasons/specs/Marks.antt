@@ -6,7 +6,7 @@ use Rattle.ar_meaning.specs.Facts.{FactOf}
 use Rattle.ar_meaning.specs.Flows.{Flows, Total}
 use Rattle.flow_reasons.specs.Rounds.{Round, AddsFact}
 use Rattle.gts_core.specs.View.{net_of}
-use Rattle.gts_core.specs.Readings.{IsTotal, values_at}
+use Rattle.gts_core.specs.Readings.{IsTotal, valuation_values}
 use Rattle.gts_core.specs.declared.system.Variable.{Variable}
 use Rattle.gts_core.specs.declared.system.GtsParts.{GtsParts}
 use Rattle.fact_marks.specs.Marks.{is_fact, is_fact_found}
@@ -14,8 +14,8 @@ use Rattle.fact_marks.specs.declared.Mark.{Mark}
 use Rattle.fact_marks.specs.declared.Mark.TheVariants.{Unknown, Given, Added}
 
 -- the value of the variable of this number, where it has its fact
-abbrev pub known_at : List Value → List Mark → ℕ → List Value
-known_at values marks n = if is_fact_found (slice_get marks n) then values_at values n else []
+abbrev pub fact_value_at : List Value → List Mark → ℕ → List Value
+fact_value_at values marks n = if is_fact_found (slice_get marks n) then valuation_values values n else []
 
 -- the variable has its fact, and it is this value
 pub record Known (values : List Value) (marks : List Mark) (n : ℕ) (v : Value) : Type 0 where
@@ -42,23 +42,23 @@ pub record IsAddedIn (p : GtsParts) (values : List Value) (n : ℕ) (v : Value) 
   pub first : IsFirst (net_of p).assertions (AddsFact (net_of p) (Round (net_of p) values before) n v) by
 
 -- what the mark of a variable with this value says
-abbrev pub Says : GtsParts → List Value → ℕ → Variable → Value → Mark → Type 0
-Says p values n x v Unknown = x.is_state ≡ false
-Says p values n x v Given = x.is_state ≡ true
-Says p values n x v (Added round by) = (x.is_state ≡ false) × IsAddedIn p values n v round by.n
+abbrev pub MarkSays : GtsParts → List Value → ℕ → Variable → Value → Mark → Type 0
+MarkSays p values n x v Unknown = x.is_state ≡ false
+MarkSays p values n x v Given = x.is_state ≡ true
+MarkSays p values n x v (Added round by) = (x.is_state ≡ false) × IsAddedIn p values n v round by.n
 
 -- the marks after so many rounds
-pub record AreMarks (p : GtsParts) (values : List Value) (rounds : ℕ) (marks : List Mark) : Type 0 where
+pub record AreRoundMarks (p : GtsParts) (values : List Value) (rounds : ℕ) (marks : List Mark) : Type 0 where
   pub long : length marks ≡ length p.variables.items
   pub sound : (n : ℕ) (v : Value) → Known values marks n v → Round (net_of p) values rounds n v
   pub whole : (n : ℕ) (v : Value) → Round (net_of p) values rounds n v → Known values marks n v
   pub says : (n : ℕ) (x : Variable) (v : Value) (m : Mark) → Stands p.variables.items n x → Stands values n v
-      → Stands marks n m → Says p values n x v m
+      → Stands marks n m → MarkSays p values n x v m
 
 -- the marks after all rounds: each fact is known
 pub record AreLastMarks (p : GtsParts) (values : List Value) (marks : List Mark) : Type 0 where
   pub rounds : ℕ
-  pub are : AreMarks p values rounds marks
+  pub are : AreRoundMarks p values rounds marks
   pub facts : (n : ℕ) (v : Value) → FactOf (net_of p) values n v → Known values marks n v
 
 -- the first mark of a variable: the state gives the facts of state variables

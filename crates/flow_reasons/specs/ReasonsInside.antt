@@ -8,7 +8,7 @@ use Rattle.ar_meaning.specs.Systems.{Net}
 use Rattle.flow_reasons.specs.Reasons.{Reason, InCone}
 
 -- the variables of the cone, by number, each once
-pub record IsCone {V : Type 0} (net : Net V) (reasons : List Reason) (e : Expr V) (numbers : List ℕ) : Type 0 where
+pub record IsReasonCone {V : Type 0} (net : Net V) (reasons : List Reason) (e : Expr V) (numbers : List ℕ) : Type 0 where
   pub ascends : Ascends numbers
   pub sound : (n : ℕ) → IsOneOf numbers n → InCone net reasons e n
   pub whole : (n : ℕ) → InCone net reasons e n → IsOneOf numbers n

@@ -22,7 +22,7 @@ came_before (Added r by) round = nat_lt r round
 
 -- the pair of variable x and assignment a gives one of the variables that the reason of flow n rests on: the assignment
 -- is one to the flow and added its fact, and the variable had its fact before
-pub record IsRest (p : GtsParts) (marks : List Mark) (n x a : ℕ) : Type 0 where
+pub record IsReasonRest (p : GtsParts) (marks : List Mark) (n x a : ℕ) : Type 0 where
   pub is_to : IsTo p a n
   pub round : ℕ
   pub by : AssignId
@@ -36,7 +36,7 @@ pub record IsRest (p : GtsParts) (marks : List Mark) (n x a : ℕ) : Type 0 wher
 pub record HasRest (p : GtsParts) (marks : List Mark) (pairs : List (ℕ × ℕ)) (n x : ℕ) : Type 0 where
   pub assign : ℕ
   pub pair : IsOneOf pairs (x, assign)
-  pub is : IsRest p marks n x assign
+  pub is : IsReasonRest p marks n x assign
 
 -- the variables that the reason of flow n rests on, by these pairs
 pub record IsRestRow (p : GtsParts) (marks : List Mark) (pairs : List (ℕ × ℕ)) (n : ℕ) (row : List ℕ) : Type 0 where

@@ -4,9 +4,9 @@ ghost use Rattle.std.specs.Prelude.{◌≡◌, ◌==◌, ◌<◌, ℕ, [], if◌
 ghost use Rattle.ar_base.specs.Lists.{Stands, IsOneOf};
 ghost use Rattle.gts_core.specs.View.{net_of, numbered};
 ghost use Rattle.gts_core.specs.declared.system.Observer.{Observer};
-ghost use Rattle.flow_reasons.specs.ReasonsInside.{IsCone};
+ghost use Rattle.flow_reasons.specs.ReasonsInside.{IsReasonCone};
 ghost use Rattle.flow_reasons.specs.Answers.{numbers_of, reasons_of, AreOfState};
-ghost use Rattle.flow_reasons.specs.Cones.{AreOrderly, AreReached, AreRestsUpon};
+ghost use Rattle.flow_reasons.specs.Cones.{AreOrderly, AreReachedVariables, AreRestsUpon};
 
 use crate::reason::Reason;
 use crate::seeing::{members, see_all};
@@ -27,7 +27,7 @@ pub fn cone(
     requires range { observer < length gts.now.observers.items }
     requires reasons { AreOfState gts.now reasons.now }
     ensures { (one : Observer) → Stands gts.now.observers.items observer one
-        → IfOk result (λ found. IsCone (net_of gts.now) (reasons_of reasons.now)
+        → IfOk result (λ found. IsReasonCone (net_of gts.now) (reasons_of reasons.now)
         (numbered one.value) (numbers_of found.items)) }
 {
     let parts = gts.parts();
@@ -48,7 +48,7 @@ fn reached(
     requires below { (n : ℕ) → IsOneOf (numbers_of first.now) n → n < count }
     ensures long { IfOk result (λ seen. length seen.items ≡ count) }
     ensures reached { IfOk result (λ seen.
-        AreReached (reasons_of reasons.now) (numbers_of first.now) seen.items) }
+        AreReachedVariables (reasons_of reasons.now) (numbers_of first.now) seen.items) }
 {
     let mut seen = vec![in alloc; false; count]?;
     let mut found = Vec::new(alloc);

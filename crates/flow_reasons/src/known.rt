@@ -6,8 +6,8 @@ ghost use Rattle.typed_expr.specs.Kinds.{kind_of};
 ghost use Rattle.ar_meaning.specs.Facts.{PassesConditions};
 ghost use Rattle.ar_meaning.specs.Found.{IsAnswer};
 ghost use Rattle.gts_core.specs.View.{condition_of};
-ghost use Rattle.gts_core.specs.Readings.{value_at};
-ghost use Rattle.flow_reasons.specs.Marks.{Known as IsKnown, known_at};
+ghost use Rattle.gts_core.specs.Readings.{valuation_at};
+ghost use Rattle.flow_reasons.specs.Marks.{Known as IsKnown, fact_value_at};
 ghost use Rattle.flow_reasons.specs.Bringing.{Brings};
 
 use ar_base::{Memory, VarId};
@@ -27,11 +27,11 @@ pub struct Known<'a> {
 }
 
 impl Env<VarId> for Known<'_> {
-    ghost value_at = { λ e x. value_at e.values.now x.n };
+    ghost value_at = { λ e x. valuation_at e.values.now x.n };
 
-    ghost facts_at = { λ e x. known_at e.values.now e.marks.now x.n };
+    ghost facts_at = { λ e x. fact_value_at e.values.now e.marks.now x.n };
 
-    ghost kind_at = { λ e x. kind_of (value_at e.values.now x.n) };
+    ghost kind_at = { λ e x. kind_of (valuation_at e.values.now x.n) };
 
     fn value(&self, v: &VarId) -> Value {
         value_at(self.values, v.n as usize)
@@ -52,6 +52,31 @@ impl Env<VarId> for Known<'_> {
     fn kind(&self, v: &VarId) -> ValueKind {
         kind_of(self.value(v))
     }
+}
+
+// Whether the assignment's target has no fact yet, and the assignment is reached from what is known and yields the target's
+// value.
+pub(crate) fn brings(
+    alloc: Global,
+    assign: &Assign,
+    values: &[Value],
+    marks: &[Mark],
+) -> Result<bool, Memory>
+    requires marks { assign.now.target.n < length marks.now }
+    requires values { assign.now.target.n < length values.now }
+    ensures { IfOk result (λ b. IsAnswer b (Brings values.now marks.now assign.now)) }
+{
+    if is_known(marks, assign.target.n) {
+        return Ok(false);
+    }
+    let known = Known { values, marks };
+    let reaches = reached(alloc, &assign.when, &known)?;
+    if !reaches {
+        return Ok(false);
+    }
+    let set = eval_set(alloc, &assign.value, &known)?;
+    let yields = has(set.values(), values[assign.target.n as usize]);
+    Ok(yields)
 }
 
 // Whether every condition yields the truth value that it must have.
@@ -78,29 +103,4 @@ fn has(values: &[Value], v: Value) -> bool
     ensures { IsAnswer result (Contains values.now v) }
 {
     values.contains(&v)
-}
-
-// Whether the assignment's target has no fact yet, and the assignment is reached from what is known and yields the target's
-// value.
-pub(crate) fn brings(
-    alloc: Global,
-    assign: &Assign,
-    values: &[Value],
-    marks: &[Mark],
-) -> Result<bool, Memory>
-    requires marks { assign.now.target.n < length marks.now }
-    requires values { assign.now.target.n < length values.now }
-    ensures { IfOk result (λ b. IsAnswer b (Brings values.now marks.now assign.now)) }
-{
-    if is_known(marks, assign.target.n) {
-        return Ok(false);
-    }
-    let known = Known { values, marks };
-    let reaches = reached(alloc, &assign.when, &known)?;
-    if !reaches {
-        return Ok(false);
-    }
-    let set = eval_set(alloc, &assign.value, &known)?;
-    let yields = has(set.values(), values[assign.target.n as usize]);
-    Ok(yields)
 }

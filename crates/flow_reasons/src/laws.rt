@@ -13,7 +13,7 @@ ghost use Rattle.ar_meaning.specs.FlatOf.{IsNumber, IsFlatOf};
 ghost use Rattle.flow_reasons.specs.Rounds.{Round};
 ghost use Rattle.flow_reasons.specs.RoundsInside.{OfThese};
 ghost use Rattle.flow_reasons.specs.Reasons.{Reason, IsDerived, AreReasons, InCone};
-ghost use Rattle.flow_reasons.specs.ReasonsInside.{IsCone};
+ghost use Rattle.flow_reasons.specs.ReasonsInside.{IsReasonCone};
 
 /// Laws of rounds, reasons and cones.
 ///
@@ -46,7 +46,7 @@ pub fn reason_laws<V>()
     ensures one_list_of_reasons { (net : Net V) (t total : List Value) → Flows net t (Total total)
         → (rs qs : List Reason) → AreReasons net t rs → AreReasons net t qs → rs ≡ qs }
     ensures one_cone { (net : Net V) (reasons : List Reason) (e : Expr V) (ms ns : List ℕ)
-        → IsCone net reasons e ms → IsCone net reasons e ns → ms ≡ ns }
+        → IsReasonCone net reasons e ms → IsReasonCone net reasons e ns → ms ≡ ns }
     ensures same_flows { (net : Net V) (t total : List Value)
         → Flows net t (Total total) → Flows net total (Total total) }
     ensures same_reasons { (net : Net V) (t total : List Value)

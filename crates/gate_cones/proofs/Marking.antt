@@ -8,9 +8,9 @@ use Rattle.eq_core.specs.Ordered.{AreBelow, AreOrdered}
 use Rattle.eq_core.specs.ValuesInside.{IsBelow}
 use Rattle.eq_core.proofs.Telling.{place_below}
 use Rattle.gate_cones.specs.Cones.{InGateCone, own, named}
-use Rattle.gate_cones.specs.Marks.{AreMarks, Marks}
+use Rattle.gate_cones.specs.Marks.{AreConeMarks, MarksOperands}
 
-pub marks_none : (m : List Bool) → Marks [] m m
+pub marks_none : (m : List Bool) → MarksOperands [] m m
 marks_none m = record {
   long = refl;
   kept = λ g i. i;
@@ -18,7 +18,7 @@ marks_none m = record {
   whole = λ g sign i. absurd (one_none (GateIs g sign) i);
 }
 
-pub marks_then : (os ps : List Operand) (a b c : List Bool) → Marks os a b → Marks ps b c → Marks (os ++ ps) a c
+pub marks_then : (os ps : List Operand) (a b c : List Bool) → MarksOperands os a b → MarksOperands ps b c → MarksOperands (os ++ ps) a c
 marks_then os ps a b c m n = record {
   long = n.long ∙ m.long;
   kept = λ g i. n.kept g (m.kept g i);
@@ -59,7 +59,7 @@ pub record IsMarking (gates : List Gate) (o : Operand) (left : ℕ) (marks : Lis
 
 pub marking_begins : (gates : List Gate) (o : Operand) (none marks : List Bool) → none ≡ replicate (length gates) false
     → length none ≡ length gates
-    → Marks (o ∷ []) none marks → IsMarking gates o (length gates) marks
+    → MarksOperands (o ∷ []) none marks → IsMarking gates o (length gates) marks
 marking_begins gates o none marks e n m = record {
   long = m.long ∙ n;
   left_in = omega arith;
@@ -90,7 +90,7 @@ module _ (gates : List Gate) (o : Operand) (a : AreOrdered gates) (left l : ℕ)
       either g b = grind arith
 
   -- the operands of one that is marked are marked
-  pub marking_on : (gate : Gate) (n : List Bool) → Stands gates l gate → Stands m l true → Marks gate.operands m n
+  pub marking_on : (gate : Gate) (n : List Bool) → Stands gates l gate → Stands m l true → MarksOperands gate.operands m n
       → IsMarking gates o l n
   marking_on gate n s t k = record {
     long = k.long ∙ i.long;
@@ -110,7 +110,7 @@ module _ (gates : List Gate) (o : Operand) (a : AreOrdered gates) (left l : ℕ)
       either g b = grind arith
 
 pub marking_ends : (gates : List Gate) (o : Operand) (marks : List Bool) → IsMarking gates o 0 marks
-    → AreMarks gates o marks
+    → AreConeMarks gates o marks
 marking_ends gates o marks i = record { long = i.long; sound = i.sound; whole = λ g c l. all_of c }
   where
     all_of : {g : ℕ} → InGateCone gates o g → Stands marks g true

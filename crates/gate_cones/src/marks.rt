@@ -4,7 +4,7 @@ ghost use Rattle.std.specs.Prelude.{◌<◌, IfOk, map, length, [], ◌∷◌};
 ghost use Rattle.eq_core.specs.Ordered.{AreBelow, AreOrdered};
 ghost use Rattle.eq_core.specs.ValuesInside.{IsBelow};
 ghost use Rattle.eq_core.specs.Views.{gate_of, operand_of};
-ghost use Rattle.gate_cones.specs.Marks.{AreMarks, Marks};
+ghost use Rattle.gate_cones.specs.Marks.{AreConeMarks, MarksOperands};
 
 use ar_base::Memory;
 use eq_core::{Gate, Operand};
@@ -14,7 +14,7 @@ use std::alloc::Global;
 pub fn cone(alloc: Global, gates: &[Gate], root: Operand) -> Result<Vec<bool>, Memory>
     requires ordered { AreOrdered (map gate_of gates.now) }
     requires root_in { IsBelow (length gates.now) (operand_of root) }
-    ensures { IfOk result (λ marks. AreMarks (map gate_of gates.now) (operand_of root)
+    ensures { IfOk result (λ marks. AreConeMarks (map gate_of gates.now) (operand_of root)
         marks.items) }
 {
     let mut marks = vec![in alloc; false; gates.len()]?;
@@ -32,7 +32,7 @@ pub fn cone(alloc: Global, gates: &[Gate], root: Operand) -> Result<Vec<bool>, M
 // Marks the gate that the operand names.
 fn mark(marks: &mut [bool], operand: Operand)
     requires { IsBelow (length marks.old) (operand_of operand) }
-    ensures { Marks (operand_of operand ∷ []) marks.old marks.new }
+    ensures { MarksOperands (operand_of operand ∷ []) marks.old marks.new }
 {
     if let Operand::Gate(gate, _) = operand {
         marks[gate.n as usize] = true;
@@ -42,7 +42,7 @@ fn mark(marks: &mut [bool], operand: Operand)
 // Marks the gates that the operands name.
 fn mark_all(marks: &mut [bool], operands: &[Operand])
     requires { AreBelow (length marks.old) (map operand_of operands.now) }
-    ensures { Marks (map operand_of operands.now) marks.old marks.new }
+    ensures { MarksOperands (map operand_of operands.now) marks.old marks.new }
 {
     for operand in operands {
         mark(marks, *operand);

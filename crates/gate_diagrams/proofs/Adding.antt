@@ -6,15 +6,15 @@ use Rattle.ar_base.proofs.Standing.{one_none, one_cases, one_first, one_rest}
 use Rattle.zdd_families.specs.Families.{Family}
 use Rattle.zdd_families.specs.FamiliesInside.{node, IsAbove}
 use Rattle.zdd_families.specs.SectionsInside.{IsMade}
-use Rattle.zdd_nodes.specs.Nodes.{NodeId, Stored, family, IsNumber, IsNode, Grows, Draws}
+use Rattle.zdd_nodes.specs.Nodes.{NodeId, Stored, family, IsFamilyNumber, IsNode, Grows, Draws}
 use Rattle.zdd_nodes.specs.declared.NodeFault.{NodeFault}
 use Rattle.zdd_nodes.proofs.Growing.{Grows-weaker, kept, still}
-use Rattle.gate_diagrams.specs.Paths.{Extends, IsOneSet, IsWith}
+use Rattle.gate_diagrams.specs.Paths.{AddsFamilies, IsOneSet, IsWith}
 
-pub extends : (P : Family → Type 0) (s t : Stored) → Grows P s t → Extends s t
+pub extends : (P : Family → Type 0) (s t : Stored) → Grows P s t → AddsFamilies s t
 extends P s t g = Grows-weaker P (λ h. Unit {0}) s t (λ h p. tt) g
 
-pub one_still : (s t : Stored) (n : ℕ) (set : List ℕ) → Extends s t → IsOneSet s n set → IsOneSet t n set
+pub one_still : (s t : Stored) (n : ℕ) (set : List ℕ) → AddsFamilies s t → IsOneSet s n set → IsOneSet t n set
 one_still s t n set g o =
     record { in_store = still (λ h. Unit {0}) s t n g o.in_store; is = kept (λ h. Unit {0}) s t n g o.in_store ∙ o.is }
 
@@ -96,7 +96,7 @@ pub in_empty : (e : ℕ) (s t : Stored) (f z u : ℕ) (set : List ℕ) (r : Resu
 in_empty e s t f z u set r l o zero_is one_is d =
     in_front e s t z u set r zero_is (ap (family s) one_is ∙ ap (λ (x : List ℕ). x ∷ []) (sym (none_one s f set l o))) d
 
-module _ (s : Stored) (f v lo hi : ℕ) (i : IsNode s.families f v lo hi) (f_in : IsNumber s f) where
+module _ (s : Stored) (f v lo hi : ℕ) (i : IsNode s.families f v lo hi) (f_in : IsFamilyNumber s f) where
   abbrev Parts : List ℕ → Type 0
   Parts set = (rest : List ℕ) × (set ≡ v ∷ rest) × (family s hi ≡ rest ∷ [])
 
@@ -111,7 +111,7 @@ module _ (s : Stored) (f v lo hi : ℕ) (i : IsNode s.families f v lo hi) (f_in 
   has_event e n q same set o =
       let p = parts set o in (
         set,
-        record { in_store = subst (IsNumber s) (sym same) f_in; is = ap (family s) same ∙ o.is },
+        record { in_store = subst (IsFamilyNumber s) (sym same) f_in; is = ap (family s) same ∙ o.is },
         record {
           sound = λ x k. inr k;
           event = subst (λ z. IsOneOf z e) (sym p.1) (subst (IsOneOf (v ∷ p.0)) (sym q) (one_first v p.0));

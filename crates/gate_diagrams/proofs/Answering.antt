@@ -11,7 +11,7 @@ use Rattle.zdd_families.proofs.Filters.{IsFamily-filter}
 use Rattle.zdd_families.proofs.Laws.{same-refl, within-refl}
 use Rattle.zdd_families.proofs.Minimal.{any_within-minimal}
 use Rattle.zdd_families.proofs.Sections.{IsMoreThan-weaker}
-use Rattle.zdd_nodes.specs.Nodes.{NodeId, Stored, family, IsNumber, IsSoundStore, Grows, Draws}
+use Rattle.zdd_nodes.specs.Nodes.{NodeId, Stored, family, IsFamilyNumber, IsSoundStore, Grows, Draws}
 use Rattle.zdd_nodes.specs.declared.NodeFault.{NodeFault}
 use Rattle.zdd_nodes.specs.declared.NodeFault.TheVariants.{Full}
 use Rattle.zdd_nodes.proofs.Growing.{Draws-after, kept, full_weaker}
@@ -112,7 +112,7 @@ module _ (table : Table) (all : Family) (is_family : IsFamily all) (s0 s1 : Stor
     pub sets_conflict : IsSoundStore s1 → (n.n ≡ 0 → ⊥) → (order : Option ℕ) (trees : List ModeTree)
         → AreListed (IsFirableUpTo order trees) all
         → ((set : List ℕ) × IsConflictUpTo order trees table set)
-        × (IsNumber s1 n.n × ListsLeastUpTo order trees (value_at table.gates table.conflict) (family s1 n.n))
+        × (IsFamilyNumber s1 n.n × ListsLeastUpTo order trees (value_at table.gates table.conflict) (family s1 n.n))
     sets_conflict k some order trees is_all =
         let positive : 0 < n.n = grind (arith, some) in
         let there : family s1 n.n ≢ [] = some_sets s1.families k.different n.n positive d.ok.0 in (
@@ -157,7 +157,7 @@ module _ (table : Table) (all : Family) (is_family : IsFamily all) (s0 s1 : Stor
         → (order : Option ℕ) (trees : List ModeTree)
         → AreListed (IsFirableUpTo order trees) all
         → ((set : List ℕ) → IsConflictUpTo order trees table set → ⊥)
-        × (IsNumber s2 m.n × ListsLeastUpTo order trees (value_at table.gates table.top) (family s2 m.n))
+        × (IsFamilyNumber s2 m.n × ListsLeastUpTo order trees (value_at table.gates table.top) (family s2 m.n))
     sets_top s2 m none t order trees is_all = (
       none_so order trees table all is_all (none_at none),
       (
@@ -168,7 +168,7 @@ module _ (table : Table) (all : Family) (is_family : IsFamily all) (s0 s1 : Stor
     )
 
 -- where the firable sets are the family of a number of the store
-module _ (table : Table) (f : ℕ) (s0 s1 : Stored) (sound : IsSoundStore s0) (f_in : IsNumber s0 f)
+module _ (table : Table) (f : ℕ) (s0 s1 : Stored) (sound : IsSoundStore s0) (f_in : IsFamilyNumber s0 f)
     (stored : All (IsCounted (family s0 f)) s0.families) where
   abbrev all : Family
   all = family s0 f
@@ -196,7 +196,7 @@ module _ (table : Table) (f : ℕ) (s0 s1 : Stored) (sound : IsSoundStore s0) (f
     pub conflict_sets : IsSoundStore s1 → (n.n ≡ 0 → ⊥) → (order : Option ℕ) (trees : List ModeTree)
         → AreListed (IsFirableUpTo order trees) all
         → ((set : List ℕ) × IsConflictUpTo order trees table set)
-        × (IsNumber s1 n.n × ListsLeastUpTo order trees (value_at table.gates table.conflict) (family s1 n.n))
+        × (IsFamilyNumber s1 n.n × ListsLeastUpTo order trees (value_at table.gates table.conflict) (family s1 n.n))
     conflict_sets = sets_conflict table all (sound.families f f_in) s0 s1 stored_needed n d
 
     module _ (s2 : Stored) (q : Result NodeId NodeFault) (none : n.n ≡ 0)
@@ -220,6 +220,6 @@ module _ (table : Table) (f : ℕ) (s0 s1 : Stored) (sound : IsSoundStore s0) (f
         → (order : Option ℕ) (trees : List ModeTree)
         → AreListed (IsFirableUpTo order trees) all
         → ((set : List ℕ) → IsConflictUpTo order trees table set → ⊥)
-        × (IsNumber s2 m.n × ListsLeastUpTo order trees (value_at table.gates table.top) (family s2 m.n))
+        × (IsFamilyNumber s2 m.n × ListsLeastUpTo order trees (value_at table.gates table.top) (family s2 m.n))
     top_sets s2 m none t = sets_top table all (sound.families f f_in) s0 s1 stored_needed n d s2 m none
         (top_drawn s2 (Ok m) none t)

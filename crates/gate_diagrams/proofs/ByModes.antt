@@ -10,7 +10,7 @@ use Rattle.zdd_families.specs.FamiliesInside.{IsFamily}
 use Rattle.zdd_families.specs.Sections.{IsCounted, IsHalf, of_minimal}
 use Rattle.zdd_families.proofs.Ascending.{ascends_nil}
 use Rattle.zdd_families.proofs.Sections.{section-whole}
-use Rattle.zdd_nodes.specs.Nodes.{NodeId, Stored, family, Draws, IsNumber, IsSoundStore}
+use Rattle.zdd_nodes.specs.Nodes.{NodeId, Stored, family, Draws, IsFamilyNumber, IsSoundStore}
 use Rattle.zdd_nodes.specs.declared.NodeFault.{NodeFault}
 use Rattle.zdd_nodes.specs.declared.NodeFault.TheVariants.{Full, Memory as OutOfMemory}
 use Rattle.zdd_nodes.proofs.Growing.{Grows-none, Draws-weaker, Draws-refused}
@@ -26,7 +26,7 @@ use Rattle.mode_nodes.specs.Bounds.{Bounded, GrowsWithin}
 use Rattle.mode_nodes.proofs.Allowed.{allowed, allowed_before}
 use Rattle.diagram_steps.specs.declared.trees.NumberedTree.{NumberedTree}
 use Rattle.diagram_steps.specs.Trees.{edges_of}
-use Rattle.mode_diagrams.specs.Agreement.{Agrees, AreClosed}
+use Rattle.mode_diagrams.specs.Agreement.{HasOperandValues, AreClosedMarks}
 use Rattle.mode_diagrams.specs.Costs.{IsEnoughFor}
 use Rattle.mode_diagrams.specs.declared.drawing.Undrawn.{Undrawn}
 use Rattle.mode_diagrams.specs.Numbers.{HasFewEdges, IsByModes}
@@ -41,16 +41,16 @@ use Rattle.gate_diagrams.specs.declared.answer.Drawn.TheVariants.{Conflicts, Cut
 use Rattle.gate_diagrams.specs.declared.answer.Family.{Family as Answered}
 use Rattle.gate_diagrams.specs.declared.by_modes.Unanswered.{Unanswered}
 use Rattle.gate_diagrams.specs.declared.by_modes.Unanswered.TheVariants.{Beyond, Nodes}
-use Rattle.gate_cones.specs.Marks.{AreMarks}
-use Rattle.gate_diagrams.specs.ByModes.{IsListed, HasValueOf, DrawsByModes, AnswersByModes, unanswered_of}
+use Rattle.gate_cones.specs.Marks.{AreConeMarks}
+use Rattle.gate_diagrams.specs.ByModes.{IsListedFamily, HasValueOf, DrawsByModes, AnswersByModes, unanswered_of}
 use Rattle.gate_diagrams.proofs.Answering.{least_drawn, needed_conflict, full_conflict, sets_conflict, needed_both, full_both, sets_top}
 use Rattle.gate_diagrams.proofs.Filters.{of_members, family_same}
 use Rattle.gate_diagrams.proofs.FirableSets.{listed_one}
 
 -- ---- what is listed of a table is listed of one with the same values
 pub listed_as : (order : Option ℕ) (trees : List NumberedTree) (new old : List Gate) (o p : Operand) (l : Listed)
-    → ((set : List ℕ) → value_at new o set ≡ value_at old p set) → IsListed order trees new o l
-    → IsListed order trees old p l
+    → ((set : List ℕ) → value_at new o set ≡ value_at old p set) → IsListedFamily order trees new o l
+    → IsListedFamily order trees old p l
 listed_as order trees new old o p l h i = record {
   sound = i.sound;
   in_store = i.in_store;
@@ -78,7 +78,7 @@ few_small trees a = record {
 
 -- the marked gates are closed under operands
 pub marks_closed : (gates : List Gate) (o : Operand) (marks : List Bool) → AreOrdered gates → IsBelow (length gates) o
-    → AreMarks gates o marks → AreClosed gates o marks
+    → AreConeMarks gates o marks → AreClosedMarks gates o marks
 marks_closed gates o marks a below m = record {
   long = m.long;
   own = λ g sign e. m.whole g (own e) (subst (IsBelow (length gates)) e below);
@@ -99,7 +99,7 @@ enough_kept order ns s t g e = record {
 }
 
 module _ (order : Option ℕ) (ns : List NumberedTree) (gates : List Gate) (o : Operand) (s : Bounded) (n : ℕ)
-    (enough : IsEnoughFor order ns s) (a : Agrees ns gates o s n) (f : Family) (k : IsFamily f)
+    (enough : IsEnoughFor order ns s) (a : HasOperandValues ns gates o s n) (f : Family) (k : IsFamily f)
     (h : HasSets (IsTrueFrom ns 0 s n) f) where
   lists_true : (forest : List ModeTree) → IsByModes forest ns → Lists (IsTrueUpTo order forest (value_at gates o)) f
   lists_true forest b = record {
@@ -123,8 +123,8 @@ module _ (order : Option ℕ) (ns : List NumberedTree) (gates : List Gate) (o : 
       (lists_listed (true_lists order forest (value_at gates o) (of_members gates o) all l))
 
 is_listed : (order : Option ℕ) (ns : List NumberedTree) (gates : List Gate) (o : Operand) (s : Bounded) (n : ℕ)
-    (l : Listed) → IsEnoughFor order ns s → Agrees ns gates o s n → IsSoundStore l.store → IsNumber l.store l.root.n
-    → HasSets (IsTrueFrom ns 0 s n) (family l.store l.root.n) → IsListed order ns gates o l
+    (l : Listed) → IsEnoughFor order ns s → HasOperandValues ns gates o s n → IsSoundStore l.store → IsFamilyNumber l.store l.root.n
+    → HasSets (IsTrueFrom ns 0 s n) (family l.store l.root.n) → IsListedFamily order ns gates o l
 is_listed order ns gates o s n l enough a sound in_store h = record {
   sound = sound;
   in_store = in_store;
@@ -132,9 +132,9 @@ is_listed order ns gates o s n l enough a sound in_store h = record {
 }
 
 pub listed_or_not : (order : Option ℕ) (ns : List NumberedTree) (gates : List Gate) (o : Operand) (s : Bounded) (n : ℕ)
-    → IsEnoughFor order ns s → Agrees ns gates o s n → (r : Result Listed Undrawn) → IfOk r (λ l. IsSoundStore l.store)
-    → IfOk r (λ l. IsNumber l.store l.root.n) → IfOk r (λ l. HasSets (IsTrueFrom ns 0 s n) (family l.store l.root.n))
-    → IfOk r (λ l. IsListed order ns gates o l)
+    → IsEnoughFor order ns s → HasOperandValues ns gates o s n → (r : Result Listed Undrawn) → IfOk r (λ l. IsSoundStore l.store)
+    → IfOk r (λ l. IsFamilyNumber l.store l.root.n) → IfOk r (λ l. HasSets (IsTrueFrom ns 0 s n) (family l.store l.root.n))
+    → IfOk r (λ l. IsListedFamily order ns gates o l)
 listed_or_not order ns gates o s n enough a (Ok l) sound in_store h =
     is_listed order ns gates o s n l enough a sound in_store h
 listed_or_not order ns gates o s n enough a (Err e) sound in_store h = tt
@@ -239,9 +239,9 @@ module _ (order : Option ℕ) (trees : List ModeTree) (table : Table) (all : Fam
             → Right (Ok (Conflicts f))
         conflicts_right f e i k some =
             let x = sets_conflict table all is_family s0 s1 stored n d k some order trees is_all in
-            let y = subst (λ z. IsNumber z n.n
+            let y = subst (λ z. IsFamilyNumber z n.n
             × ListsLeastUpTo order trees (value_at table.gates table.conflict) (family z n.n)) (sym e) x.1 in
-            let w = subst (λ (m : NodeId). IsNumber f.store m.n
+            let w = subst (λ (m : NodeId). IsFamilyNumber f.store m.n
             × ListsLeastUpTo order trees (value_at table.gates table.conflict) (family f.store m.n)) (sym i) y in
             record {
               sets = (x.0, w.0, w.1);
@@ -273,9 +273,9 @@ module _ (order : Option ℕ) (trees : List ModeTree) (table : Table) (all : Fam
               → Right (Ok (Cuts f))
           cuts_right m f e i k t =
               let x = sets_top table all is_family s0 s1 stored n d s2 m zero_is t order trees is_all in
-              let y = subst (λ z. IsNumber z m.n
+              let y = subst (λ z. IsFamilyNumber z m.n
               × ListsLeastUpTo order trees (value_at table.gates table.top) (family z m.n)) (sym e) x.1 in
-              let w = subst (λ (q : NodeId). IsNumber f.store q.n
+              let w = subst (λ (q : NodeId). IsFamilyNumber f.store q.n
               × ListsLeastUpTo order trees (value_at table.gates table.top) (family f.store q.n)) (sym i) y in
               record {
                 sets = (x.0, w.0, w.1);

@@ -4,7 +4,7 @@ use Rattle.ar_base.specs.Sets.{Ascends}
 use Rattle.ar_base.proofs.Truths.{alike}
 use Rattle.ar_firing.specs.Forest.{ModeTree}
 use Rattle.ar_firing.specs.Listed.{AreListed}
-use Rattle.ar_firing.specs.Trees.{AreApart}
+use Rattle.ar_firing.specs.Trees.{HaveOwnEvents}
 use Rattle.ar_firing.proofs.OneListing.{ascending_same}
 use Rattle.zdd_families.specs.Families.{Family, has}
 use Rattle.zdd_families.specs.Sections.{IsCounted}
@@ -35,7 +35,7 @@ listed_one f g a b =
 
 pub firable_drawn : (order : Option ℕ) (trees : Stored) (paths : List NodeId) (s t : Stored) (r : Result NodeId NodeFault)
     → DrawsLeft order trees paths s t r → (forest : List ModeTree)
-    → AreTreeFamilies forest (families_left trees paths) → AreApart forest → (all : Family)
+    → AreTreeFamilies forest (families_left trees paths) → HaveOwnEvents forest → (all : Family)
     → AreListed (IsFirableUpTo order forest) all → Draws (IsCounted all) all s t r
 firable_drawn order trees paths s t r d forest families apart all listed =
     let fs = families_left trees paths in

@@ -2,30 +2,30 @@
 use Rattle.std.proofs.Common.{◌≡◌, ℕ, ◌+◌, ◌<◌, true, List, take, length, Result, Ok, Err, sym, ap, ◌∙◌, subst, arith}
 use Rattle.ar_base.specs.Lists.{Stands}
 use Rattle.zdd_families.specs.Families.{Family}
-use Rattle.zdd_nodes.specs.Nodes.{NodeId, Stored, family, IsNumber, Grows, Draws}
+use Rattle.zdd_nodes.specs.Nodes.{NodeId, Stored, family, IsFamilyNumber, Grows, Draws}
 use Rattle.zdd_nodes.specs.declared.NodeFault.{NodeFault}
 use Rattle.zdd_nodes.proofs.Growing.{Draws-refused, Draws-after, kept, still}
 use Rattle.eq_core.specs.Gates.{Operand, GateIs, Gate}
 use Rattle.gate_diagrams.specs.Needed.{family_at, joint_family, IsNeeded}
-use Rattle.gate_diagrams.specs.Drawing.{IsReady, IsTable}
+use Rattle.gate_diagrams.specs.Drawing.{IsGateReady, IsGateTabled}
 use Rattle.gate_diagrams.proofs.Needing.{first_is, all_are}
 
 -- so many of the gate's first operands are drawn: n is the number of their family
 pub record IsSoFar (P : Family → Type 0) (all : Family) (gates : List Gate) (gate : Gate) (k : ℕ) (old new : Stored)
     (n : ℕ) : Type 0 where
   pub grows : Grows P old new
-  pub in_store : IsNumber new n
+  pub in_store : IsFamilyNumber new n
   pub is : family new n ≡ joint_family all gates gate.both (take k gate.operands)
 
 table_kept : (P : Family → Type 0) (all : Family) (gates : List Gate) (table : List NodeId) (s t : Stored) (p : Operand)
-    → Grows P s t → IsTable all gates table s p → IsTable all gates table t p
+    → Grows P s t → IsGateTabled all gates table s p → IsGateTabled all gates table t p
 table_kept P all gates table s t p g i = record {
   in_table = i.in_table;
   drawn = λ k sign n e h. let x = i.drawn k sign n e h in record { in_store = still P s t n.n g x.in_store; is = kept P s t n.n g x.in_store ∙ x.is };
 }
 
 module _ (gates : List Gate) (o : Operand) (g : ℕ) (gate : Gate) (table : List NodeId) (s : Stored) (f : ℕ)
-    (f_in : IsNumber s f) (ready : IsReady (family s f) gates o g gate table s) where
+    (f_in : IsFamilyNumber s f) (ready : IsGateReady (family s f) gates o g gate table s) where
   abbrev all : Family
   all = family s f
 
@@ -59,11 +59,11 @@ module _ (gates : List Gate) (o : Operand) (g : ℕ) (gate : Gate) (table : List
     all_same : family t f ≡ all
     all_same = kept N s t f i.grows f_in
 
-    pub firable_in : IsNumber t f
+    pub firable_in : IsFamilyNumber t f
     firable_in = still N s t f i.grows f_in
 
-    pub still_ready : IsReady (family t f) gates o g gate table t
-    still_ready = subst (λ z. IsReady z gates o g gate table t) (sym all_same) (record {
+    pub still_ready : IsGateReady (family t f) gates o g gate table t
+    still_ready = subst (λ z. IsGateReady z gates o g gate table t) (sym all_same) (record {
       ordered = ready.ordered;
       in_order = ready.in_order;
       cone = ready.cone;

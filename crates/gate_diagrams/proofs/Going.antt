@@ -8,7 +8,7 @@ use Rattle.zdd_families.specs.FamiliesInside.{node, IsAbove}
 use Rattle.zdd_families.specs.Sections.{IsCounted}
 use Rattle.zdd_families.specs.SectionsInside.{IsMade}
 use Rattle.zdd_families.proofs.Laws.{holds_here}
-use Rattle.zdd_nodes.specs.Nodes.{NodeId, Stored, family, IsNumber, IsSoundStore, Grows, Draws}
+use Rattle.zdd_nodes.specs.Nodes.{NodeId, Stored, family, IsFamilyNumber, IsSoundStore, Grows, Draws}
 use Rattle.zdd_nodes.specs.declared.NodeFault.{NodeFault}
 use Rattle.zdd_nodes.specs.declared.NodeFault.TheVariants.{Memory}
 use Rattle.zdd_nodes.proofs.Growing.{Draws-refused, Draws-after, kept, still}
@@ -210,12 +210,12 @@ module _ (order : Option ℕ) (trees : Stored) (state : List NodeId) (e : ℕ)
       abbrev Upper : ℕ → Family
       Upper n = few_upper order (left n 0 (all_taken e fs))
 
-      pub lo_in : IsNumber s2 lo.n
+      pub lo_in : IsFamilyNumber s2 lo.n
       lo_in = h.lo_in (IsCounted (Made n0)) (Made n0) e (Lower n0) (Upper n0)
           (walk_halved order (n0 - suc e) n0 e fs (rest n0 b0) least o)
           s0 s1 s2 lo hi (lower_drawn n0 b0 (Ok lo) dl) (upper_drawn n0 b0 (Ok hi) dh)
 
-      pub hi_in : IsNumber s2 hi.n
+      pub hi_in : IsFamilyNumber s2 hi.n
       hi_in = (upper_drawn n0 b0 (Ok hi) dh).ok.0
 
       pub lo_above : IsAbove e (family s2 lo.n)

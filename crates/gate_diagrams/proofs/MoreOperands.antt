@@ -4,16 +4,16 @@ use Rattle.ar_base.specs.Lists.{Stands}
 use Rattle.zdd_families.specs.Families.{Family}
 use Rattle.zdd_families.specs.FamiliesInside.{meet, union}
 use Rattle.zdd_families.specs.Sections.{IsCounted}
-use Rattle.zdd_nodes.specs.Nodes.{NodeId, Stored, family, IsNumber, Draws}
+use Rattle.zdd_nodes.specs.Nodes.{NodeId, Stored, family, IsFamilyNumber, Draws}
 use Rattle.zdd_nodes.specs.declared.NodeFault.{NodeFault}
 use Rattle.zdd_nodes.proofs.Growing.{Draws-refused, Draws-after, kept}
 use Rattle.eq_core.specs.Gates.{Operand, Gate}
 use Rattle.gate_diagrams.specs.Needed.{family_at, joint_family, IsOperandInCone, of_gate, IsNeeded}
-use Rattle.gate_diagrams.specs.Drawing.{IsReady, IsTable}
+use Rattle.gate_diagrams.specs.Drawing.{IsGateReady, IsGateTabled}
 use Rattle.gate_diagrams.proofs.Needing.{met_drawn, joined_drawn}
 
 module _ (gates : List Gate) (o : Operand) (g : ℕ) (gate : Gate) (table : List NodeId) (s : Stored) (f : ℕ)
-    (f_in : IsNumber s f) (ready : IsReady (family s f) gates o g gate table s) (k : ℕ) (p : Operand)
+    (f_in : IsFamilyNumber s f) (ready : IsGateReady (family s f) gates o g gate table s) (k : ℕ) (p : Operand)
     (next : Stands gate.operands k p) where
   abbrev all : Family
   all = family s f
@@ -30,7 +30,7 @@ module _ (gates : List Gate) (o : Operand) (g : ℕ) (gate : Gate) (table : List
   pub is_named : IsOperandInCone gates o p
   is_named = of_gate ready.cone ready.stands (record { place = k; stands = next })
 
-  pub is_in_table : IsTable all gates table s p
+  pub is_in_table : IsGateTabled all gates table s p
   is_in_table = ready.operands p (record { place = k; stands = next })
 
   pub more_refused : (t : Stored) (x : NodeFault) → Draws N (family_at all gates p) s t (Err x)
@@ -42,7 +42,7 @@ module _ (gates : List Gate) (o : Operand) (g : ℕ) (gate : Gate) (table : List
   joined_as true e t u r d = met_drawn all gates o g gate ready.cone ready.stands k p next e t u r d
   joined_as false e t u r d = joined_drawn all gates o g gate ready.cone ready.stands k p next e ready.in_order t u r d
 
-  pub more_drawn : (n m : NodeId) → IsNumber s n.n → family s n.n ≡ So_far
+  pub more_drawn : (n m : NodeId) → IsFamilyNumber s n.n → family s n.n ≡ So_far
       → (t u : Stored) (r : Result NodeId NodeFault) → Draws N (family_at all gates p) s t (Ok m)
       → (let made = cond gate.both (meet (family t n.n) (family t m.n)) (union (family t n.n) (family t m.n)) in Draws (IsCounted made) made t u r) → Draws N Then s u r
   more_drawn n m i e t u r d k2 =

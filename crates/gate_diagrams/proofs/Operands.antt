@@ -3,7 +3,7 @@ use Rattle.std.proofs.Common.{◌≡◌, ℕ, Bool, true, false, List, Result, O
 use Rattle.zdd_families.specs.Families.{Family}
 use Rattle.zdd_families.specs.FamiliesInside.{minus, having}
 use Rattle.zdd_families.specs.Sections.{IsCounted}
-use Rattle.zdd_nodes.specs.Nodes.{NodeId, Stored, family, IsNumber, Draws}
+use Rattle.zdd_nodes.specs.Nodes.{NodeId, Stored, family, IsFamilyNumber, Draws}
 use Rattle.zdd_nodes.specs.declared.NodeFault.{NodeFault}
 use Rattle.zdd_nodes.proofs.Growing.{Draws-stays, Draws-refused, Draws-after, kept}
 use Rattle.eq_core.specs.Gates.{Operand, Always, Never, EventIs, GateIs, Gate}
@@ -13,7 +13,7 @@ use Rattle.gate_diagrams.proofs.Filters.{family_of_always, family_of_never}
 use Rattle.gate_diagrams.proofs.Needing.{event_drawn, opposite_drawn}
 
 module _ (gates : List Gate) (root p : Operand) (named : IsOperandInCone gates root p) (s : Stored) (f : ℕ)
-    (f_in : IsNumber s f) where
+    (f_in : IsFamilyNumber s f) where
   abbrev all : Family
   all = family s f
 

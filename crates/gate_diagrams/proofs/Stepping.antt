@@ -8,14 +8,14 @@ use Rattle.zdd_families.specs.Families.{Family}
 use Rattle.zdd_families.specs.FamiliesInside.{IsAbove}
 use Rattle.zdd_families.specs.Sections.{lower}
 use Rattle.zdd_families.proofs.Laws.{IsAbove-node}
-use Rattle.zdd_nodes.specs.Nodes.{NodeId, Stored, family, IsNumber, IsNode}
+use Rattle.zdd_nodes.specs.Nodes.{NodeId, Stored, family, IsFamilyNumber, IsNode}
 use Rattle.firable_families.specs.Walk.{occurs, some_occurs, taken}
 use Rattle.firable_families.proofs.Halving.{none_above, lower_above, taken_above, lower_node, occurs_node, taken_node}
 use Rattle.firable_families.proofs.Merging.{place_some}
-use Rattle.gate_diagrams.specs.Walked.{families_left, total, half_of, IsHalf, AreHalves}
+use Rattle.gate_diagrams.specs.Walked.{families_left, sum_of_numbers, half_of, IsHalfNumber, AreHalves}
 
 -- ---- one tree
-module _ (s : Stored) (f v lo hi : ℕ) (i : IsNode s.families f v lo hi) (f_in : IsNumber s f) where
+module _ (s : Stored) (f v lo hi : ℕ) (i : IsNode s.families f v lo hi) (f_in : IsFamilyNumber s f) where
   pub node_has : occurs v (family s f) ≡ true
   node_has = ap (occurs v) i.is ∙ occurs_node v (family s lo) (family s hi) i.lo_above i.hi_above i.hi_some
 
@@ -27,7 +27,7 @@ module _ (s : Stored) (f v lo hi : ℕ) (i : IsNode s.families f v lo hi) (f_in 
 
   -- a later event is not the tree's turn
   pub half_stays : (e : ℕ) (b : Bool) → ((x : ℕ) → x < e → occurs x (family s f) ≡ false) → (v ≡ e → ⊥)
-      → IsHalf s e b f f
+      → IsHalfNumber s e b f f
   half_stays e b least other = record {
     in_store = f_in;
     is = by b;
@@ -46,16 +46,16 @@ module _ (s : Stored) (f v lo hi : ℕ) (i : IsNode s.families f v lo hi) (f_in 
       by true = sym (taken_above e (family s f) (above e late))
       by false = sym (lower_above e (family s f) (above e late))
 
-  pub half_takes : (e : ℕ) (b : Bool) → v ≡ e → b ≡ true → IsHalf s e b f hi
-  half_takes e b q t = subst (λ z. IsHalf s z b f hi) q (subst (λ z. IsHalf s v z f hi) (sym t) (record {
+  pub half_takes : (e : ℕ) (b : Bool) → v ≡ e → b ≡ true → IsHalfNumber s e b f hi
+  half_takes e b q t = subst (λ z. IsHalfNumber s z b f hi) q (subst (λ z. IsHalfNumber s v z f hi) (sym t) (record {
     in_store = omega (arith, i.hi_before, f_in);
     is = sym (ap (taken v) i.is ∙ taken_node v (family s lo) (family s hi) i.lo_above i.hi_above i.hi_some);
     no_greater = omega (arith, i.hi_before);
     smaller = λ h. i.hi_before;
   }))
 
-  pub half_leaves : (e : ℕ) (b : Bool) → v ≡ e → b ≡ false → IsHalf s e b f lo
-  half_leaves e b q t = subst (λ z. IsHalf s z b f lo) q (subst (λ z. IsHalf s v z f lo) (sym t) (record {
+  pub half_leaves : (e : ℕ) (b : Bool) → v ≡ e → b ≡ false → IsHalfNumber s e b f lo
+  half_leaves e b q t = subst (λ z. IsHalfNumber s z b f lo) q (subst (λ z. IsHalfNumber s v z f lo) (sym t) (record {
     in_store = omega (arith, i.lo_before, f_in);
     is = sym (ap (lower v) i.is ∙ lower_node v (family s lo) (family s hi) i.lo_above i.hi_above);
     no_greater = omega (arith, i.lo_before);
@@ -76,7 +76,7 @@ pub families_more : (s : Stored) (os ps : List NodeId)
     → families_left s (os ++ ps) ≡ families_left s os ++ families_left s ps
 families_more s os ps = map-append (λ (n : NodeId). family s n.n) os ps
 
-total_more : (os : List NodeId) (o : NodeId) → total (os ++ o ∷ []) ≡ total os + o.n
+total_more : (os : List NodeId) (o : NodeId) → sum_of_numbers (os ++ o ∷ []) ≡ sum_of_numbers os + o.n
 total_more [] o = omega arith
 total_more (p ∷ os) o = omega (arith, total_more os o)
 
@@ -89,7 +89,7 @@ halves_none s e b = record {
 }
 
 pub halves_more : (s : Stored) (e : ℕ) (b : Bool) (os ns : List NodeId) (o n : NodeId) → AreHalves s e b os ns
-    → IsHalf s e b o.n n.n
+    → IsHalfNumber s e b o.n n.n
     → AreHalves s e b (os ++ o ∷ []) (ns ++ n ∷ [])
 halves_more s e b os ns o n a h = record {
   in_store = record {
@@ -106,8 +106,8 @@ halves_more s e b os ns o n a h = record {
       ∙ list_any-append (occurs e) (families_left s os) (families_left s (o ∷ []))) ∙ x);
 }
   where
-    last : (j : ℕ) (m : NodeId) → Stands (n ∷ []) j m → IsNumber s m.n
-    last zero m i = let q : n ≡ m = cc in subst (λ (z : NodeId). IsNumber s z.n) q h.in_store
+    last : (j : ℕ) (m : NodeId) → Stands (n ∷ []) j m → IsFamilyNumber s m.n
+    last zero m i = let q : n ≡ m = cc in subst (λ (z : NodeId). IsFamilyNumber s z.n) q h.in_store
     last (suc j) m i = absurd (stands_none j m i)
 
     alone : (c : Bool) → (c || false) ≡ true → c ≡ true
@@ -116,7 +116,7 @@ halves_more s e b os ns o n a h = record {
 
     either : (c : Bool) → some_occurs e (families_left s os) ≡ c
         → (some_occurs e (families_left s os) || (occurs e (family s o.n) || false)) ≡ true
-        → total (ns ++ n ∷ []) < total (os ++ o ∷ [])
+        → sum_of_numbers (ns ++ n ∷ []) < sum_of_numbers (os ++ o ∷ [])
     either true q x = omega (arith, total_more os o, total_more ns n, a.smaller q, h.no_greater)
     either false q x =
         let y : occurs e (family s o.n) ≡ true =

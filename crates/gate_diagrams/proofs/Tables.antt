@@ -4,7 +4,7 @@ use Rattle.ar_base.specs.Lists.{Stands, IsOneOf}
 use Rattle.ar_base.proofs.Standing.{stands_none}
 use Rattle.zdd_families.specs.Families.{Family}
 use Rattle.zdd_families.specs.FamiliesInside.{IsInOrder}
-use Rattle.zdd_nodes.specs.Nodes.{NodeId, Stored, family, IsNumber, Grows, Draws}
+use Rattle.zdd_nodes.specs.Nodes.{NodeId, Stored, family, IsFamilyNumber, Grows, Draws}
 use Rattle.zdd_nodes.specs.declared.NodeFault.{NodeFault}
 use Rattle.zdd_nodes.specs.declared.NodeFault.TheVariants.{Memory}
 use Rattle.zdd_nodes.proofs.Growing.{Grows-none, Grows-then, Draws-after, Draws-refused, kept, still}
@@ -15,7 +15,7 @@ use Rattle.eq_core.specs.ValuesInside.{IsBelow}
 use Rattle.eq_core.proofs.Telling.{place_below}
 use Rattle.gate_cones.specs.Cones.{InGateCone, own, named}
 use Rattle.gate_diagrams.specs.Needed.{family_at, IsNeeded}
-use Rattle.gate_diagrams.specs.Drawing.{IsDrawn, IsTable, IsReady}
+use Rattle.gate_diagrams.specs.Drawing.{IsDrawn, IsGateTabled, IsGateReady}
 
 -- want of memory is no full store
 pub memory_drawn : (P : Family → Type 0) (made : Family) (s t : Stored) → Grows P s t → Draws P made s t (Err Memory)
@@ -32,7 +32,7 @@ pub drawing_begins : (all : Family) (gates : List Gate) (o : Operand) (s : Store
 drawing_begins all gates o s = record
     { grows = Grows-none (IsNeeded all gates o) s; long = refl; drawn = λ g n c i. absurd (stands_none g n i) }
 
-module _ (gates : List Gate) (o : Operand) (f : ℕ) (old : Stored) (f_in : IsNumber old f) (k : ℕ) (table : List NodeId)
+module _ (gates : List Gate) (o : Operand) (f : ℕ) (old : Stored) (f_in : IsFamilyNumber old f) (k : ℕ) (table : List NodeId)
     (s : Stored)
     (d : IsDrawing (family old f) gates o k table old s) where
   abbrev all : Family
@@ -44,14 +44,14 @@ module _ (gates : List Gate) (o : Operand) (f : ℕ) (old : Stored) (f_in : IsNu
   all_same : family s f ≡ all
   all_same = kept N old s f d.grows f_in
 
-  pub firable_in : IsNumber s f
+  pub firable_in : IsFamilyNumber s f
   firable_in = still N old s f d.grows f_in
 
   -- the next gate, where it is in the cone, can be drawn
   pub ready_next : AreOrdered gates → IsInOrder all → (gate : Gate) → InGateCone gates o (length table)
       → Stands gates (length table) gate
-      → IsReady (family s f) gates o (length table) gate table s
-  ready_next a i gate c h = subst (λ z. IsReady z gates o (length table) gate table s) (sym all_same) (record {
+      → IsGateReady (family s f) gates o (length table) gate table s
+  ready_next a i gate c h = subst (λ z. IsGateReady z gates o (length table) gate table s) (sym all_same) (record {
     ordered = a;
     in_order = i;
     cone = c;
@@ -98,7 +98,7 @@ module _ (gates : List Gate) (o : Operand) (f : ℕ) (old : Stored) (f_in : IsNu
       }
     where
       at : (g : ℕ) (m : NodeId) → g ≡ length table → m ≡ n → InGateCone gates o g
-          → IsNumber t n.n × (family t n.n ≡ cond b (family_at all gates (GateIs (length table) true)) [])
+          → IsFamilyNumber t n.n × (family t n.n ≡ cond b (family_at all gates (GateIs (length table) true)) [])
           → IsDrawn all gates (GateIs g true) t m.n
       at g m e q c y =
           let z : b ≡ true = marked (subst (InGateCone gates o) e c) in
@@ -111,8 +111,8 @@ module _ (gates : List Gate) (o : Operand) (f : ℕ) (old : Stored) (f_in : IsNu
           }))
 
   -- the operand itself can then be drawn
-  pub root_table : length table ≡ length gates → IsBelow (length gates) o → IsTable (family s f) gates table s o
-  root_table l b = subst (λ z. IsTable z gates table s o) (sym all_same) (record {
+  pub root_table : length table ≡ length gates → IsBelow (length gates) o → IsGateTabled (family s f) gates table s o
+  root_table l b = subst (λ z. IsGateTabled z gates table s o) (sym all_same) (record {
     in_table = λ g sign e. subst (λ n. g < n) (sym l) (subst (IsBelow (length gates)) e b);
     drawn = λ g sign n e j. d.drawn g n (own {sign = sign} e) j;
   })

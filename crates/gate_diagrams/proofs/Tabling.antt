@@ -15,7 +15,7 @@ use Rattle.ar_firing.specs.Listed.{AreListed}
 use Rattle.ar_firing.specs.Trees.{IsTree}
 use Rattle.mode_trees.specs.declared.forests.Edge.{Edge}
 use Rattle.mode_trees.specs.declared.forests.ModeTree.{ModeTree as Tree}
-use Rattle.mode_trees.specs.Views.{row_of, tree_of}
+use Rattle.mode_trees.specs.Views.{edge_row, tree_of}
 use Rattle.zdd_families.specs.Families.{Family, same, has}
 use Rattle.zdd_families.specs.FamiliesInside.{union}
 use Rattle.zdd_families.specs.Sections.{IsCounted}
@@ -28,7 +28,7 @@ use Rattle.firable_families.specs.FirableInside.{root, edge, HaveEvents, IsPathS
 use Rattle.firable_families.specs.Entries.{IsEntry, HasEntries}
 use Rattle.firable_families.proofs.ModePaths.{entries_listed}
 use Rattle.mode_diagrams.specs.Numbers.{IsEnteredBefore}
-use Rattle.gate_diagrams.specs.Paths.{Extends, key_of, same_key, number_at, IsOneSet, IsWith, IsKnown, IsTabled}
+use Rattle.gate_diagrams.specs.Paths.{AddsFamilies, key_of, same_key, number_at, IsOneSet, IsWith, IsModeKnown, AreModesTabled}
 use Rattle.gate_diagrams.proofs.Adding.{extends, one_still}
 
 -- ---- keys
@@ -126,10 +126,10 @@ no_edge = record {
 }
 
 pub edge_stands : (tree : Tree) (items : List Edge) (k : ℕ) → items ≡ tree.edges.items → k < length items
-    → Stands (tree_of (λ n. n) tree).edges k (row_of (λ n. n) (get_or items k no_edge))
+    → Stands (tree_of (λ n. n) tree).edges k (edge_row (λ n. n) (get_or items k no_edge))
 edge_stands tree items k e l =
-    subst (λ (z : List Edge). Stands (map (row_of (λ n. n)) z) k (row_of (λ n. n) (get_or items k no_edge))) e
-    (stands_map (row_of (λ n. n)) items k (get_or items k no_edge) (stands_get items k no_edge l))
+    subst (λ (z : List Edge). Stands (map (edge_row (λ n. n)) z) k (edge_row (λ n. n) (get_or items k no_edge))) e
+    (stands_map (edge_row (λ n. n)) items k (get_or items k no_edge) (stands_get items k no_edge l))
 
 no_events : HaveEvents [] []
 no_events = record { sound = λ k l i. absurd (stands_none k l i); whole = λ e i. absurd (one_none e i) }
@@ -173,13 +173,13 @@ module _ {S : Type 0} (tree : ModeTree) where
   -- before the first edge
   pub tabled_first : (old modes : HashMap (ℕ × ℤ) NodeId S) (s : Stored) (n : NodeId) → n.n ≡ 1
       → Updates same_key old modes (key_of tree.first) (Some n)
-      → IsTabled tree 0 modes s n.n
+      → AreModesTabled tree 0 modes s n.n
   tabled_first old modes s n one u = record {
     entries = (tree.first, []) ∷ [];
     sound = first_entry;
     known = λ m r. ⊎_elim
         (λ (q : m ≡ tree.first).
-        subst (λ z. (i : IsKnown modes s z) × IsOneOf {A = Value × List ℕ} ((tree.first, []) ∷ []) (z, i.set))
+        subst (λ z. (i : IsModeKnown modes s z) × IsOneOf {A = Value × List ℕ} ((tree.first, []) ∷ []) (z, i.set))
         (sym q) first_known)
         (λ w. absurd (omega (arith, w.2))) r;
     in_store = omega (arith, one);
@@ -197,7 +197,7 @@ module _ {S : Type 0} (tree : ModeTree) where
           }
       first_entry (suc j) m set i = absurd (stands_none j (m, set) i)
 
-      first_known : (i : IsKnown modes s tree.first) × IsOneOf {A = Value × List ℕ} ((tree.first, []) ∷ [])
+      first_known : (i : IsModeKnown modes s tree.first) × IsOneOf {A = Value × List ℕ} ((tree.first, []) ∷ [])
           (tree.first, i.set)
       first_known = (
         record {
@@ -212,7 +212,7 @@ module _ {S : Type 0} (tree : ModeTree) where
   -- after the last
   pub tabled_listed : (t : IsTree tree) (k : ℕ) (modes : HashMap (ℕ × ℤ) NodeId S) (s : Stored) (paths : ℕ)
       → IsSoundStore s → k ≡ length tree.edges
-      → IsTabled tree k modes s paths → AreListed (IsPathSet tree) (family s paths)
+      → AreModesTabled tree k modes s paths → AreListed (IsPathSet tree) (family s paths)
   tabled_listed t k modes s paths sound all i =
       entries_listed tree t i.entries (record {
         sound = i.sound;
@@ -224,10 +224,10 @@ module _ {S : Type 0} (tree : ModeTree) where
 
   module _ (t : IsTree tree) (k : ℕ) (r : Row) (at : Stands tree.edges k r) (modes new : HashMap (ℕ × ℤ) NodeId S)
       (s0 s1 s2 : Stored) (paths : ℕ)
-      (i : IsTabled tree k modes s0 paths) (before set : NodeId) (found : number_at modes r.from ≡ Some before)
+      (i : AreModesTabled tree k modes s0 paths) (before set : NodeId) (found : number_at modes r.from ≡ Some before)
       (more : (s : List ℕ) → IsOneSet s0 before.n s → (m : List ℕ) × IsOneSet s1 set.n m × IsWith r.label.event s m)
-      (u : Updates same_key modes new (key_of r.to) (Some set)) (g : Extends s0 s1) where
-    abbrev left_mode : (x : IsKnown modes s0 r.from) × IsOneOf i.entries (r.from, x.set)
+      (u : Updates same_key modes new (key_of r.to) (Some set)) (g : AddsFamilies s0 s1) where
+    abbrev left_mode : (x : IsModeKnown modes s0 r.from) × IsOneOf i.entries (r.from, x.set)
     left_mode = i.known r.from (t.from k r at)
 
     abbrev is_before : left_mode.0.number ≡ before
@@ -256,9 +256,9 @@ module _ {S : Type 0} (tree : ModeTree) where
         (d : Draws (IsCounted (union (family s1 paths) (family s1 set.n)))
         (union (family s1 paths) (family s1 set.n)) s1 s2 (Ok n)) where
       abbrev Listed_known : Value → Type 0
-      Listed_known m = (x : IsKnown new s2 m) × IsOneOf ((r.to, made.0) ∷ i.entries) (m, x.set)
+      Listed_known m = (x : IsModeKnown new s2 m) × IsOneOf ((r.to, made.0) ∷ i.entries) (m, x.set)
 
-      later : Extends s0 s2
+      later : AddsFamilies s0 s2
       later = Grows-then (λ h. Unit {0}) s0 s1 s2 g (extends _ s1 s2 d.grows)
 
       new_known : Listed_known r.to
@@ -294,7 +294,7 @@ module _ {S : Type 0} (tree : ModeTree) where
               let same = stands_one tree.edges k r q at (subst (λ z. Stands tree.edges z q) x s) in
               subst Listed_known (ap (λ (z : Row). z.to) same ∙ e) new_known) (order j l)
 
-      tabled_one : IsTabled tree (k + 1) new s2 n.n
+      tabled_one : AreModesTabled tree (k + 1) new s2 n.n
       tabled_one = record {
         entries = (r.to, made.0) ∷ i.entries;
         sound = all_entries;
@@ -308,6 +308,6 @@ module _ {S : Type 0} (tree : ModeTree) where
 
     pub tabled_more : (q : Result NodeId NodeFault)
         → (let both = union (family s1 paths) (family s1 set.n) in Draws (IsCounted both) both s1 s2 q)
-        → IfOk q (λ n. IsTabled tree (k + 1) new s2 n.n)
+        → IfOk q (λ n. AreModesTabled tree (k + 1) new s2 n.n)
     tabled_more (Ok n) d = tabled_one n d
     tabled_more (Err x) d = tt

@@ -4,14 +4,14 @@ use Rattle.std.specs.List.{All}
 use Rattle.std.proofs.lemmas.List.Elements.{All-nil}
 use Rattle.ar_firing.specs.Forest.{ModeTree}
 use Rattle.ar_firing.specs.Listed.{AreListed}
-use Rattle.ar_firing.specs.Trees.{AreApart}
+use Rattle.ar_firing.specs.Trees.{HaveOwnEvents}
 use Rattle.mode_trees.specs.declared.forests.ModeTree.{ModeTree as Tree}
 use Rattle.mode_trees.specs.declared.forests.Forest.{Forest}
 use Rattle.mode_trees.specs.Views.{tree_of, trees_of}
 use Rattle.zdd_families.specs.Families.{Family}
 use Rattle.zdd_families.specs.Sections.{IsCounted, IsMoreThan}
 use Rattle.zdd_families.proofs.Sections.{IsMoreThan-weaker}
-use Rattle.zdd_nodes.specs.Nodes.{NodeId, Stored, family, IsNumber, Draws}
+use Rattle.zdd_nodes.specs.Nodes.{NodeId, Stored, family, IsFamilyNumber, Draws}
 use Rattle.zdd_nodes.specs.declared.NodeFault.{NodeFault}
 use Rattle.zdd_nodes.specs.declared.NodeFault.TheVariants.{Full}
 use Rattle.zdd_nodes.proofs.Limits.{full_is_more}
@@ -42,7 +42,7 @@ pub record IsWalk (order : Option ℕ) (trees : List ModeTree) (s t : Stored) (l
 -- what a call that draws the firable sets says, where these are the numbers of the families of the trees' paths
 abbrev pub DrawsFirable : Option ℕ → Stored → List NodeId → Stored → Stored → Result NodeId NodeFault → Type 0
 DrawsFirable order paths ns s t r =
-    (trees : List ModeTree) → AreTreeFamilies trees (families_left paths ns) → AreApart trees
+    (trees : List ModeTree) → AreTreeFamilies trees (families_left paths ns) → HaveOwnEvents trees
     → (all : Family) → AreListed (IsFirableUpTo order trees) all → Draws (IsCounted all) all s t r
 
 -- the numbers stand for the same families in the store that is handed on
@@ -54,7 +54,7 @@ in_forest forest items made paths ns e same a =
     (subst (λ z. AreTreeFamilies (map (tree_of (λ n. n)) z) (families_left made ns)) e a)
 
 pub a_walk : {order : Option ℕ} {trees : List ModeTree} {s t : Stored} {limit : ℕ} {r : Result NodeId NodeFault}
-    (paths : Stored) (ns : List NodeId) → AreTreeFamilies trees (families_left paths ns) → AreApart trees
+    (paths : Stored) (ns : List NodeId) → AreTreeFamilies trees (families_left paths ns) → HaveOwnEvents trees
     → s.families ≡ [] → s.limit ≡ limit → DrawsFirable order paths ns s t r → IsWalk order trees s t limit r
 a_walk {order = order} {trees = trees} paths ns families apart none limited d =
     let fs = families_left paths ns in
@@ -90,7 +90,7 @@ module _ {order : Option ℕ} {trees : List ModeTree} {s t : Stored} {limit : �
   pub firable_listed : AreListed (IsFirableUpTo order trees) (family t n.n)
   firable_listed = subst (AreListed (IsFirableUpTo order trees)) (sym w.drawn.ok.1) w.is_all
 
-  pub firable_in : IsNumber t n.n
+  pub firable_in : IsFamilyNumber t n.n
   firable_in = w.drawn.ok.0
 
   pub firable_stored : All (IsCounted (family t n.n)) t.families
@@ -106,7 +106,7 @@ module _ {order : Option ℕ} {trees : List ModeTree} {s t : Stored} {limit : �
 
 -- the firable sets are listed, where the families of the trees' paths are there
 pub all_listed : (order : Option ℕ) {trees : List ModeTree} (paths : Stored) (ns : List NodeId)
-    → AreTreeFamilies trees (families_left paths ns) → AreApart trees
+    → AreTreeFamilies trees (families_left paths ns) → HaveOwnEvents trees
     → (all : Family) × AreListed (IsFirableUpTo order trees) all
 all_listed order {trees = trees} paths ns families apart =
     let fs = families_left paths ns in

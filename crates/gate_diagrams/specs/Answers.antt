@@ -3,7 +3,7 @@ use Rattle.std.specs.Prelude.{ℕ, List, Option, None}
 use Rattle.std.specs.List.{All}
 use Rattle.ar_firing.specs.Forest.{ModeTree}
 use Rattle.zdd_families.specs.Families.{Family}
-use Rattle.zdd_nodes.specs.Nodes.{Stored, family, IsNumber}
+use Rattle.zdd_nodes.specs.Nodes.{Stored, family, IsFamilyNumber}
 use Rattle.eq_core.specs.Gates.{Table}
 use Rattle.eq_core.specs.Values.{value_at}
 use Rattle.firable_families.specs.FirableInside.{ListsLeastUpTo}
@@ -16,15 +16,15 @@ use Rattle.gate_diagrams.specs.declared.answer.Drawn.TheVariants.{Conflicts, Cut
 -- are some; else the least at which the top operand is
 abbrev pub IsAnswerUpTo : Option ℕ → List ModeTree → Table → Drawn → Type 0
 IsAnswerUpTo order trees table (Conflicts f) =
-    ((set : List ℕ) × IsConflictUpTo order trees table set) × IsNumber f.store f.root.n
+    ((set : List ℕ) × IsConflictUpTo order trees table set) × IsFamilyNumber f.store f.root.n
     × ListsLeastUpTo order trees (value_at table.gates table.conflict) (family f.store f.root.n)
 IsAnswerUpTo order trees table (Cuts f) =
-    ((set : List ℕ) → IsConflictUpTo order trees table set → ⊥) × IsNumber f.store f.root.n
+    ((set : List ℕ) → IsConflictUpTo order trees table set → ⊥) × IsFamilyNumber f.store f.root.n
     × ListsLeastUpTo order trees (value_at table.gates table.top) (family f.store f.root.n)
 
 -- the same of all firable sets
-abbrev pub IsAnswer : List ModeTree → Table → Drawn → Type 0
-IsAnswer trees table drawn = IsAnswerUpTo None trees table drawn
+abbrev pub IsDrawnAnswer : List ModeTree → Table → Drawn → Type 0
+IsDrawnAnswer trees table drawn = IsAnswerUpTo None trees table drawn
 
 -- the store of the answer
 abbrev pub store_of : Drawn → Stored

@@ -3,7 +3,7 @@ use Rattle.std.specs.Prelude.{◌≡◌, ◌≤◌, ℕ, List, length, Option, R
 use Rattle.ar_firing.specs.Forest.{ModeTree}
 use Rattle.ar_firing.specs.Listed.{AreListed}
 use Rattle.zdd_families.specs.Families.{Family, minimal}
-use Rattle.zdd_nodes.specs.Nodes.{NodeId, Stored, family, IsNumber, IsSoundStore, Draws}
+use Rattle.zdd_nodes.specs.Nodes.{NodeId, Stored, family, IsFamilyNumber, IsSoundStore, Draws}
 use Rattle.zdd_nodes.specs.declared.NodeFault.TheVariants as NodeFault
 use Rattle.eq_core.specs.Gates.{Operand, Gate, Table}
 use Rattle.eq_core.specs.Values.{value_at}
@@ -20,9 +20,9 @@ use Rattle.gate_diagrams.specs.declared.by_modes.Unanswered.{Unanswered}
 
 -- the family is that of the operand over the firable sets of at most as many events as are asked for, where the numbered
 -- trees are those of a forest
-pub record IsListed (order : Option ℕ) (trees : List NumberedTree) (gates : List Gate) (o : Operand) (l : Listed) : Type 0 where
+pub record IsListedFamily (order : Option ℕ) (trees : List NumberedTree) (gates : List Gate) (o : Operand) (l : Listed) : Type 0 where
   pub sound : IsSoundStore l.store
-  pub in_store : IsNumber l.store l.root.n
+  pub in_store : IsFamilyNumber l.store l.root.n
   pub is : (forest : List ModeTree) → IsByModes forest trees → (all : Family)
       → AreListed (IsFirableUpTo order forest) all
       → family l.store l.root.n ≡ family_at all gates o

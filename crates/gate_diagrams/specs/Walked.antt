@@ -8,7 +8,7 @@ use Rattle.ar_base.specs.Lists.{Stands}
 use Rattle.ar_base.specs.NumbersInside.{EventId}
 use Rattle.zdd_families.specs.Families.{Family}
 use Rattle.zdd_families.specs.Sections.{lower}
-use Rattle.zdd_nodes.specs.Nodes.{NodeId, Stored, family, IsNumber}
+use Rattle.zdd_nodes.specs.Nodes.{NodeId, Stored, family, IsFamilyNumber}
 use Rattle.firable_families.specs.Walk.{occurs, some_occurs, taken, left, few_of, AreEventsBelow}
 use Rattle.gate_diagrams.specs.declared.walked.State.{State}
 
@@ -31,12 +31,12 @@ moving state = filter (λ (n : NodeId). not (eqb n.n 1)) state
 
 -- each is a number of the store
 pub record AreNumbers (trees : Stored) (state : List NodeId) : Type 0 where
-  pub each : (k : ℕ) (n : NodeId) → Stands state k n → IsNumber trees n.n
+  pub each : (k : ℕ) (n : NodeId) → Stands state k n → IsFamilyNumber trees n.n
 
 -- the numbers' sum
-abbrev pub total : List NodeId → ℕ
-total [] = 0
-total (n ∷ ns) = n.n + total ns
+abbrev pub sum_of_numbers : List NodeId → ℕ
+sum_of_numbers [] = 0
+sum_of_numbers (n ∷ ns) = n.n + sum_of_numbers ns
 
 -- what is left of a tree's sets where the event is taken, or where it is left out
 abbrev pub half_of : Bool → ℕ → Family → Family
@@ -44,8 +44,8 @@ half_of true e f = taken e f
 half_of false e f = lower e f
 
 -- the number of such a half: it is less where the tree has the event
-pub record IsHalf (trees : Stored) (e : ℕ) (take : Bool) (old new : ℕ) : Type 0 where
-  pub in_store : IsNumber trees new
+pub record IsHalfNumber (trees : Stored) (e : ℕ) (take : Bool) (old new : ℕ) : Type 0 where
+  pub in_store : IsFamilyNumber trees new
   pub is : family trees new ≡ half_of take e (family trees old)
   pub no_greater : new ≤ old
   pub smaller : occurs e (family trees old) ≡ true → new < old
@@ -54,8 +54,8 @@ pub record IsHalf (trees : Stored) (e : ℕ) (take : Bool) (old new : ℕ) : Typ
 pub record AreHalves (trees : Stored) (e : ℕ) (take : Bool) (old new : List NodeId) : Type 0 where
   pub in_store : AreNumbers trees new
   pub are : families_left trees new ≡ map (half_of take e) (families_left trees old)
-  pub no_greater : total new ≤ total old
-  pub smaller : some_occurs e (families_left trees old) ≡ true → total new < total old
+  pub no_greater : sum_of_numbers new ≤ sum_of_numbers old
+  pub smaller : some_occurs e (families_left trees old) ≡ true → sum_of_numbers new < sum_of_numbers old
 
 -- the least event that one of the families has; None where none has one
 abbrev pub IsLeastEvent : List Family → Option EventId → Type 0
@@ -64,7 +64,7 @@ IsLeastEvent fs (Some e) = (some_occurs e.n fs ≡ true) × ((x : ℕ) → x < e
 
 -- n is the number of the family that the walk has left in this state, of the sets of at most as many events as are asked for
 pub record IsWalked (trees made : Stored) (order : Option ℕ) (state : List NodeId) (n : ℕ) : Type 0 where
-  pub in_store : IsNumber made n
+  pub in_store : IsFamilyNumber made n
   pub is : (below : ℕ) → AreEventsBelow below (families_left trees state)
       → family made n ≡ few_of order (left below 0 (families_left trees state))
 

@@ -6,7 +6,7 @@ ghost use Rattle.ar_firing.specs.Forest.{ModeTree};
 ghost use Rattle.ar_firing.specs.Listed.{AreListed};
 ghost use Rattle.zdd_families.specs.Families.{minimal};
 ghost use Rattle.zdd_families.specs.Sections.{IsCounted};
-ghost use Rattle.zdd_nodes.specs.Nodes.{family, IsNumber, IsSoundStore, Draws};
+ghost use Rattle.zdd_nodes.specs.Nodes.{family, IsFamilyNumber, IsSoundStore, Draws};
 ghost use Rattle.eq_core.specs.Ordered.{AreOrdered, IsOrderedTable};
 ghost use Rattle.eq_core.specs.ValuesInside.{IsBelow};
 ghost use Rattle.eq_core.specs.Views.{gate_of, operand_of, table_of};
@@ -48,7 +48,7 @@ pub(crate) fn answer(
     firable: NodeId,
 ) -> Result<Drawn, NodeFault>
     requires sound { IsSoundStore ops }
-    requires firable_in { IsNumber ops firable.n }
+    requires firable_in { IsFamilyNumber ops firable.n }
     requires stored { All (IsCounted (family ops firable.n)) ops.families }
     requires table { IsOrderedTable (table_of equations.now) }
     ensures sets { (order : Option ℕ) (trees : List ModeTree)
@@ -91,7 +91,7 @@ fn least(
     root: Operand,
 ) -> Result<NodeId, NodeFault>
     requires sound { IsSoundStore ops.old }
-    requires firable_in { IsNumber ops.old firable.n }
+    requires firable_in { IsFamilyNumber ops.old firable.n }
     requires ordered { AreOrdered (map gate_of gates.now) }
     requires root_in { IsBelow (length gates.now) (operand_of root) }
     ensures drawn { Draws (IsNeeded (family ops.old firable.n) (map gate_of gates.now)

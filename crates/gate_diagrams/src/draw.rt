@@ -2,13 +2,13 @@
 
 ghost use Rattle.std.specs.Prelude.{◌≡◌, map, length, cond, true, []};
 ghost use Rattle.zdd_families.specs.FamiliesInside.{IsInOrder};
-ghost use Rattle.zdd_nodes.specs.Nodes.{family, IsNumber, Draws};
+ghost use Rattle.zdd_nodes.specs.Nodes.{family, IsFamilyNumber, Draws};
 ghost use Rattle.eq_core.specs.Gates.{GateIs};
 ghost use Rattle.eq_core.specs.Ordered.{AreOrdered};
 ghost use Rattle.eq_core.specs.ValuesInside.{IsBelow};
 ghost use Rattle.eq_core.specs.Views.{gate_of, operand_of};
 ghost use Rattle.gate_diagrams.specs.Needed.{family_at, IsNeeded};
-ghost use Rattle.gate_diagrams.specs.Drawing.{IsReady};
+ghost use Rattle.gate_diagrams.specs.Drawing.{IsGateReady};
 
 use crate::gates::{gate, operand};
 use eq_core::{Gate, Operand};
@@ -25,7 +25,7 @@ pub(crate) fn draw(
     firable: NodeId,
     root: Operand,
 ) -> Result<NodeId, NodeFault>
-    requires firable_in { IsNumber ops.old firable.n }
+    requires firable_in { IsFamilyNumber ops.old firable.n }
     requires in_order { IsInOrder (family ops.old firable.n) }
     requires ordered { AreOrdered (map gate_of gates.now) }
     requires root_in { IsBelow (length gates.now) (operand_of root) }
@@ -53,8 +53,8 @@ fn next_gate(
     next: &Gate,
     marked: bool,
 ) -> Result<NodeId, NodeFault>
-    requires firable_in { IsNumber ops.old firable.n }
-    requires ready { marked ≡ true → IsReady (family ops.old firable.n) (map gate_of gates.now)
+    requires firable_in { IsFamilyNumber ops.old firable.n }
+    requires ready { marked ≡ true → IsGateReady (family ops.old firable.n) (map gate_of gates.now)
         (operand_of root)
         (length table.now) (gate_of next.now) table.now ops.old }
     ensures drawn { Draws (IsNeeded (family ops.old firable.n) (map gate_of gates.now)

@@ -3,7 +3,7 @@
 ghost use Rattle.std.specs.Prelude.{List, OnOk};
 ghost use Rattle.ar_firing.specs.Forest.{ModeTree};
 ghost use Rattle.ar_firing.specs.Listed.{AreListed};
-ghost use Rattle.ar_firing.specs.Trees.{AreApart};
+ghost use Rattle.ar_firing.specs.Trees.{HaveOwnEvents};
 ghost use Rattle.zdd_families.specs.Families.{Family as Sets};
 ghost use Rattle.zdd_families.specs.Sections.{IsCounted};
 ghost use Rattle.zdd_nodes.specs.Nodes.{Draws, IsSoundStore};
@@ -31,7 +31,7 @@ pub(crate) fn firable_sets(
     requires made { IsSoundStore ops.old }
     ensures sound { OnOk result (IsSoundStore ops.new) }
     ensures drawn { (forest : List ModeTree)
-        → AreTreeFamilies forest (families_left trees.now paths.items) → AreApart forest
+        → AreTreeFamilies forest (families_left trees.now paths.items) → HaveOwnEvents forest
         → (all : Sets) → AreListed (IsFirableUpTo order forest) all
         → Draws (IsCounted all) all ops.old ops.new result }
 {

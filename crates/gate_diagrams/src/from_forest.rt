@@ -9,7 +9,7 @@ ghost use Rattle.eq_core.specs.Ordered.{IsOrderedTable};
 ghost use Rattle.eq_core.specs.Views.{table_of};
 ghost use Rattle.firable_families.specs.FirableInside.{IsFirableOf, IsFirableUpTo};
 ghost use Rattle.gate_diagrams.specs.NodeLimits.{NodesMay, NodesMayUpTo};
-ghost use Rattle.gate_diagrams.specs.Answers.{IsAnswer, IsAnswerUpTo, AreNeeded, store_of};
+ghost use Rattle.gate_diagrams.specs.Answers.{IsDrawnAnswer, IsAnswerUpTo, AreNeeded, store_of};
 
 use crate::answer::{Drawn, answer};
 use crate::by_modes::{Unanswered, by_modes};
@@ -38,7 +38,7 @@ pub fn diagrams(
     requires table { IsOrderedTable (table_of equations.now) }
     requires trees { AreTrees (trees_of (λ n. n) forest.now) }
     ensures sets { IfOk result
-        (λ d. IsAnswer (trees_of (λ n. n) forest.now) (table_of equations.now) d) }
+        (λ d. IsDrawnAnswer (trees_of (λ n. n) forest.now) (table_of equations.now) d) }
     ensures needed { (all : Sets) → AreListed (IsFirableOf (trees_of (λ n. n) forest.now)) all
         → IfOk result (λ d. AreNeeded all (table_of equations.now) d) }
     ensures within { IfOk result (λ d. length (store_of d).families ≤ limit) }

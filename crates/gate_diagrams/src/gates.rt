@@ -1,11 +1,11 @@
 //! The families of operands and gates.
 
 ghost use Rattle.std.specs.Prelude.{◌≡◌, ◌<◌, ◌+◌, map, length, take, true};
-ghost use Rattle.zdd_nodes.specs.Nodes.{family, IsNumber, Draws};
+ghost use Rattle.zdd_nodes.specs.Nodes.{family, IsFamilyNumber, Draws};
 ghost use Rattle.eq_core.specs.Gates.{GateIs};
 ghost use Rattle.eq_core.specs.Views.{all_needed, gate_of, operand_of};
 ghost use Rattle.gate_diagrams.specs.Needed.{family_at, joint_family, IsOperandInCone, IsNeeded};
-ghost use Rattle.gate_diagrams.specs.Drawing.{IsTable, IsReady};
+ghost use Rattle.gate_diagrams.specs.Drawing.{IsGateTabled, IsGateReady};
 
 use eq_core::{Gate, Joint, Operand};
 use zdd_nodes::{NodeFault, NodeId};
@@ -20,8 +20,8 @@ pub(crate) fn operand(
     firable: NodeId,
     operand: Operand,
 ) -> Result<NodeId, NodeFault>
-    requires firable_in { IsNumber ops.old firable.n }
-    requires table { IsTable (family ops.old firable.n) (map gate_of gates.now) table.now ops.old
+    requires firable_in { IsFamilyNumber ops.old firable.n }
+    requires table { IsGateTabled (family ops.old firable.n) (map gate_of gates.now) table.now ops.old
         (operand_of operand) }
     requires named { IsOperandInCone (map gate_of gates.now) (operand_of root) (operand_of operand) }
     ensures drawn { Draws (IsNeeded (family ops.old firable.n) (map gate_of gates.now)
@@ -60,11 +60,11 @@ pub(crate) fn one_more(
     place: usize,
     so_far: NodeId,
 ) -> Result<NodeId, NodeFault>
-    requires firable_in { IsNumber ops.old firable.n }
-    requires ready { IsReady (family ops.old firable.n) (map gate_of gates.now) (operand_of root)
+    requires firable_in { IsFamilyNumber ops.old firable.n }
+    requires ready { IsGateReady (family ops.old firable.n) (map gate_of gates.now) (operand_of root)
         (length table.now) (gate_of gate.now) table.now ops.old }
     requires place_in { place < length gate.now.operands.items }
-    requires so_far_in { IsNumber ops.old so_far.n }
+    requires so_far_in { IsFamilyNumber ops.old so_far.n }
     requires so_far_is { family ops.old so_far.n
         ≡ joint_family (family ops.old firable.n) (map gate_of gates.now)
         (all_needed gate.now.joint) (take place (map operand_of gate.now.operands.items)) }
@@ -89,8 +89,8 @@ pub(crate) fn gate(
     firable: NodeId,
     gate: &Gate,
 ) -> Result<NodeId, NodeFault>
-    requires firable_in { IsNumber ops.old firable.n }
-    requires ready { IsReady (family ops.old firable.n) (map gate_of gates.now) (operand_of root)
+    requires firable_in { IsFamilyNumber ops.old firable.n }
+    requires ready { IsGateReady (family ops.old firable.n) (map gate_of gates.now) (operand_of root)
         (length table.now) (gate_of gate.now) table.now ops.old }
     ensures drawn { Draws (IsNeeded (family ops.old firable.n) (map gate_of gates.now)
         (operand_of root))

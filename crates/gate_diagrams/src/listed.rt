@@ -3,7 +3,7 @@
 ghost use Rattle.std.specs.Prelude.{◌≡◌, ◌≤◌, IfOk, OnOk, List, length, map};
 ghost use Rattle.std.specs.List.{All};
 ghost use Rattle.zdd_families.specs.Families.{Family as Sets, minimal};
-ghost use Rattle.zdd_nodes.specs.Nodes.{family, IsNumber, IsSoundStore, Draws};
+ghost use Rattle.zdd_nodes.specs.Nodes.{family, IsFamilyNumber, IsSoundStore, Draws};
 ghost use Rattle.eq_core.specs.Gates.{Gate as GateOf, Operand as OperandOf};
 ghost use Rattle.eq_core.specs.Ordered.{AreOrdered};
 ghost use Rattle.eq_core.specs.ValuesInside.{IsBelow};
@@ -12,7 +12,7 @@ ghost use Rattle.mode_diagrams.specs.Trees.{AreNumbered, AreApart};
 ghost use Rattle.mode_diagrams.specs.Costs.{HaveDifferentEvents};
 ghost use Rattle.mode_diagrams.specs.Numbers.{HasFewEdges};
 ghost use Rattle.gate_diagrams.specs.Needed.{family_at, IsNeeded};
-ghost use Rattle.gate_diagrams.specs.ByModes.{IsListed};
+ghost use Rattle.gate_diagrams.specs.ByModes.{IsListedFamily};
 
 use diagram_steps::NumberedTree;
 use eq_core::{Gate, Operand};
@@ -42,7 +42,7 @@ pub(crate) fn listed_at(
     requires ordered { AreOrdered (map gate_of gates.now) }
     requires root_in { IsBelow (length gates.now) (operand_of root) }
     ensures { IfOk result
-        (λ l. IsListed order trees.now (map gate_of gates.now) (operand_of root) l) }
+        (λ l. IsListedFamily order trees.now (map gate_of gates.now) (operand_of root) l) }
 {
     let marks = cone(alloc, gates, root)?;
     let mut diagrams = diagrams_up_to(alloc, trees, order, MOST_DIAGRAMS)?;
@@ -58,7 +58,7 @@ pub(crate) fn least_listed(
     listed: &Listed,
 ) -> Result<NodeId, NodeFault>
     requires sound { IsSoundStore listed.now.store }
-    requires in_store { IsNumber listed.now.store listed.now.root.n }
+    requires in_store { IsFamilyNumber listed.now.store listed.now.root.n }
     ensures drawn { (all : Sets) (gates : List GateOf) (root : OperandOf)
         → family listed.now.store listed.now.root.n ≡ family_at all gates root
         → Draws (IsNeeded all gates root) (minimal (family_at all gates root)) ops.old ops.new

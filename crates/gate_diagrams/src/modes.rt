@@ -12,17 +12,6 @@ use zdd_nodes::NodeId;
 // The numbers of modes by their keys.
 pub(crate) type Modes = HashMap<(u32, i64), NodeId>;
 
-// The mode as a key: no two modes have one key.
-fn key_of(mode: Value) -> (u32, i64)
-    ensures { result ≡ key mode }
-{
-    match mode {
-        Value::Truth(truth) => (0, i64::from(truth)),
-        Value::Whole(number) => (1, number),
-        Value::Symbol(symbol) => (2, i64::from(symbol)),
-    }
-}
-
 /// The number of a mode that the table has.
 pub(crate) fn number_of(modes: &Modes, mode: Value) -> NodeId
     requires { IsSome (number_at modes.now mode) }
@@ -31,6 +20,17 @@ pub(crate) fn number_of(modes: &Modes, mode: Value) -> NodeId
     match modes.get(&key_of(mode)) {
         Some(number) => *number,
         None => unreachable!(),
+    }
+}
+
+// The mode as a key: no two modes have one key.
+fn key_of(mode: Value) -> (u32, i64)
+    ensures { result ≡ key mode }
+{
+    match mode {
+        Value::Truth(truth) => (0, i64::from(truth)),
+        Value::Whole(number) => (1, number),
+        Value::Symbol(symbol) => (2, i64::from(symbol)),
     }
 }
 

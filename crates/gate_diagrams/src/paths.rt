@@ -5,12 +5,12 @@ ghost use Rattle.ar_base.specs.Lists.{Stands};
 ghost use Rattle.ar_firing.specs.Forest.{ModeTree as Rows};
 ghost use Rattle.ar_firing.specs.Listed.{AreListed};
 ghost use Rattle.ar_firing.specs.Trees.{IsTree, AreTrees};
-ghost use Rattle.mode_trees.specs.Views.{row_of, tree_of};
-ghost use Rattle.zdd_nodes.specs.Nodes.{family, IsNumber, IsSoundStore};
+ghost use Rattle.mode_trees.specs.Views.{edge_row, tree_of};
+ghost use Rattle.zdd_nodes.specs.Nodes.{family, IsFamilyNumber, IsSoundStore};
 ghost use Rattle.firable_families.specs.FirableInside.{IsPathSet};
 ghost use Rattle.firable_families.specs.Walk.{AreTreeFamilies};
 ghost use Rattle.gate_diagrams.specs.Walked.{families_left, AreNumbers};
-ghost use Rattle.gate_diagrams.specs.Paths.{Extends, IsOneSet, IsWith, IsKnown, IsTabled};
+ghost use Rattle.gate_diagrams.specs.Paths.{AddsFamilies, IsOneSet, IsWith, IsModeKnown, AreModesTabled};
 
 use crate::modes::{Modes, number_of, put};
 use ar_base::EventId;
@@ -48,8 +48,8 @@ fn tree_paths(alloc: Global, ops: &mut Ops, tree: &ModeTree) -> Result<NodeId, N
     requires sound { IsSoundStore ops.old }
     requires tree { IsTree (tree_of (λ n. n) tree.now) }
     ensures sound { OnOk result (IsSoundStore ops.new) }
-    ensures grows { Extends ops.old ops.new }
-    ensures in_store { IfOk result (λ n. IsNumber ops.new n.n) }
+    ensures grows { AddsFamilies ops.old ops.new }
+    ensures in_store { IfOk result (λ n. IsFamilyNumber ops.new n.n) }
     ensures listed { IfOk result
         (λ n. AreListed (IsPathSet (tree_of (λ n. n) tree.now)) (family ops.new n.n)) }
 {
@@ -73,14 +73,14 @@ fn one_more(
     edge: &Edge,
 ) -> Result<NodeId, NodeFault>
     requires sound { IsSoundStore ops.old }
-    requires paths_in { IsNumber ops.old paths.n }
-    requires known { IsKnown modes.old ops.old edge.now.from }
+    requires paths_in { IsFamilyNumber ops.old paths.n }
+    requires known { IsModeKnown modes.old ops.old edge.now.from }
     ensures sound { OnOk result (IsSoundStore ops.new) }
-    ensures grows { Extends ops.old ops.new }
+    ensures grows { AddsFamilies ops.old ops.new }
     ensures tabled { (tree : Rows) (k : ℕ) → IsTree tree
-        → Stands tree.edges k (row_of (λ n. n) edge.now)
-        → IsTabled tree k modes.old ops.old paths.n
-        → IfOk result (λ n. IsTabled tree (k + 1) modes.new ops.new n.n) }
+        → Stands tree.edges k (edge_row (λ n. n) edge.now)
+        → AreModesTabled tree k modes.old ops.old paths.n
+        → IfOk result (λ n. AreModesTabled tree (k + 1) modes.new ops.new n.n) }
 {
     let before = number_of(modes, edge.from);
     let set = with_event(ops, before, edge.event)?;
@@ -93,7 +93,7 @@ fn with_event(ops: &mut Ops, set: NodeId, event: EventId) -> Result<NodeId, Node
     requires sound { IsSoundStore ops.old }
     requires one { (s : List ℕ) × IsOneSet ops.old set.n s }
     ensures sound { OnOk result (IsSoundStore ops.new) }
-    ensures grows { Extends ops.old ops.new }
+    ensures grows { AddsFamilies ops.old ops.new }
     ensures more { (s : List ℕ) → IsOneSet ops.old set.n s
         → IfOk result (λ n. (more : List ℕ) × IsOneSet ops.new n.n more × IsWith event.n s more) }
 {

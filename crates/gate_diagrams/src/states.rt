@@ -3,9 +3,9 @@
 ghost use Rattle.std.specs.Prelude.{◌≡◌, ◌<◌, ◌++◌, ℕ, List, false, nat_eq, IfOk, [], ◌∷◌};
 ghost use Rattle.std.specs.List.{list_any};
 ghost use Rattle.zdd_families.specs.Families.{Family as Sets};
-ghost use Rattle.zdd_nodes.specs.Nodes.{family, IsNumber};
+ghost use Rattle.zdd_nodes.specs.Nodes.{family, IsFamilyNumber};
 ghost use Rattle.firable_families.specs.Walk.{occurs, some_occurs};
-ghost use Rattle.gate_diagrams.specs.Walked.{families_left, AreNumbers, IsHalf, AreHalves, IsLeastEvent};
+ghost use Rattle.gate_diagrams.specs.Walked.{families_left, AreNumbers, IsHalfNumber, AreHalves, IsLeastEvent};
 
 use ar_base::{EventId, Memory};
 use std::alloc::Global;
@@ -37,7 +37,7 @@ pub(crate) fn least_event(trees: &Store, left: &[NodeId]) -> Option<EventId>
 
 // The least event of a family.
 fn first_event(trees: &Store, tree: NodeId) -> Option<EventId>
-    requires { IsNumber trees.now tree.n }
+    requires { IsFamilyNumber trees.now tree.n }
     ensures { IsLeastEvent (family trees.now tree.n ∷ []) result }
 {
     let (event, _, _) = trees.split(tree)?;
@@ -84,9 +84,9 @@ pub(crate) fn halves(
 
 // What is left of one tree.
 fn half(trees: &Store, event: EventId, tree: NodeId, taken: bool) -> NodeId
-    requires in_store { IsNumber trees.now tree.n }
+    requires in_store { IsFamilyNumber trees.now tree.n }
     requires least { (x : ℕ) → x < event.n → occurs x (family trees.now tree.n) ≡ false }
-    ensures { IsHalf trees.now event.n taken tree.n result.n }
+    ensures { IsHalfNumber trees.now event.n taken tree.n result.n }
 {
     let Some((first, lo, hi)) = trees.split(tree) else {
         return tree;

@@ -15,7 +15,7 @@ use Rattle.zdd_families.proofs.Laws.{same-true, same-refl}
 use Rattle.zdd_families.proofs.Members.{holds_law}
 use Rattle.zdd_families.proofs.Minimal.{member_of}
 use Rattle.gate_modules.specs.Modules.{lies, inside, outside, joined_sets, IsPartOfUnit, IsModule}
-use Rattle.gate_modules.specs.ModulesInside.{AreApart}
+use Rattle.gate_modules.specs.ModulesInside.{ShareNoEvent}
 use Rattle.gate_modules.specs.Shortened.{ShortForm, touches, is_covered, same_form, once}
 use Rattle.gate_modules.specs.declared.ranges.Range.{Range}
 use Rattle.gate_modules.proofs.Forming.{passed_one}
@@ -140,7 +140,7 @@ once_whole (x ∷ xs) a i = step (once_whole xs a) (same_form x a) refl (one_cas
 -- ---- ranges of which no event is of two
 abbrev pub Apart : List Range → Type 0
 Apart [] = Unit {0}
-Apart (r ∷ rs) = ((c : Range) → IsOneOf rs c → AreApart r c) × Apart rs
+Apart (r ∷ rs) = ((c : Range) → IsOneOf rs c → ShareNoEvent r c) × Apart rs
 
 pub apart : (xs : List Range) → ((a b : Range) → IsOneOf xs a → IsOneOf xs b → (e : ℕ) → lies a e ≡ true
     → lies b e ≡ true → a ≡ b)
@@ -163,7 +163,7 @@ apart_filter q (r ∷ xs) a = elim (q r) as (λ b. Apart (cond b (r ∷ filter q
 ]
 
 -- an event of a range apart from these is of none of them
-pub uncovered : (r : Range) (xs : List Range) → ((c : Range) → IsOneOf xs c → AreApart r c) → (e : ℕ) → lies r e ≡ true
+pub uncovered : (r : Range) (xs : List Range) → ((c : Range) → IsOneOf xs c → ShareNoEvent r c) → (e : ℕ) → lies r e ≡ true
     → is_covered xs e ≡ false
 uncovered r [] h e l = refl
 uncovered r (c ∷ xs) h e l = ap₂ (λ a b. a || b) (false_from_ne_true (lies c e) (h c (one_first c xs) e l))
@@ -244,7 +244,7 @@ module _ (f : Family) where
   exchange r m a p s h t = m.exchanged a (outside r s) p
       (record { set = s; among = h; touched = filter_some (lies r) s t; is = refl })
 
-  still_touches : (r c : Range) → AreApart r c → (a s : List ℕ) → touches s c ≡ true
+  still_touches : (r c : Range) → ShareNoEvent r c → (a s : List ℕ) → touches s c ≡ true
       → touches (joined_sets r a (outside r s)) c ≡ true
   still_touches r c apart a s t =
       let w = any_event (lies c) s t in

@@ -8,10 +8,10 @@ use Rattle.ar_base.proofs.Standing.{one_left, one_right, one_split, one_none, on
 use Rattle.zdd_families.specs.Families.{Family}
 use Rattle.zdd_families.specs.Sections.{section}
 use Rattle.zdd_families.proofs.Behind.{behind_none}
-use Rattle.zdd_nodes.specs.Nodes.{Stored, family, IsNumber, IsSoundStore}
+use Rattle.zdd_nodes.specs.Nodes.{Stored, family, IsFamilyNumber, IsSoundStore}
 use Rattle.gate_modules.specs.Choosing.{IsWithinNone, Considers, AreChosenSoFar}
 use Rattle.gate_modules.specs.Choosing.Considers.{within, no_module, is_new}
-use Rattle.gate_modules.specs.Forms.{AreOfDifferentUnits, IsFit, AddsForms}
+use Rattle.gate_modules.specs.Forms.{AreOfDifferentUnits, PassesTaken, AddsForms}
 use Rattle.gate_modules.specs.Modules.{lies, Covers, IsModule, IsRound, IsChosen, AreChosen}
 use Rattle.gate_modules.specs.ModulesInside.{AreRanges}
 use Rattle.gate_modules.specs.Shortened.{UnitSets, ShortForm, short_form, once, IsModuleOf, IsShortened}
@@ -190,8 +190,8 @@ module _ (f : Family) (ranges : List Range) (are : AreRanges ranges) where
     }
 
 -- in a module the parts go on alike
-pub fit_root : (s : Stored) → IsSoundStore s → (root : ℕ) → IsNumber s root → (ranges chosen : List Range)
-    → ((c : Range) → IsOneOf chosen c → IsChosen (family s root) ranges c) → IsFit chosen [] (family s root)
+pub fit_root : (s : Stored) → IsSoundStore s → (root : ℕ) → IsFamilyNumber s root → (ranges chosen : List Range)
+    → ((c : Range) → IsOneOf chosen c → IsChosen (family s root) ranges c) → PassesTaken chosen [] (family s root)
 fit_root s sound root inside ranges chosen h = record {
   alike = λ r i. record {
     alike = λ p a b na nb sa sb.

@@ -4,7 +4,7 @@ use Rattle.ar_base.specs.Lists.{IsOneOf}
 use Rattle.zdd_families.specs.Families.{Family, has}
 use Rattle.zdd_families.specs.Sections.{section}
 use Rattle.zdd_families.proofs.Sections.{section-nil}
-use Rattle.zdd_nodes.specs.Nodes.{Stored, family, IsNumber, IsSoundStore}
+use Rattle.zdd_nodes.specs.Nodes.{Stored, family, IsFamilyNumber, IsSoundStore}
 use Rattle.gate_modules.specs.Ends.{Alike, AgreeSome}
 use Rattle.gate_modules.specs.Modules.{joined_sets, IsPartOfUnit, IsRest, IsModule}
 use Rattle.gate_modules.specs.Walked.{AgreesSome, AreEnds, EntryAgrees}
@@ -16,7 +16,7 @@ use Rattle.gate_modules.proofs.Splitting.{has_some, some_has}
 use Rattle.gate_modules.proofs.Numbers.{not_empty}
 use Rattle.gate_modules.proofs.Exchange.{exit, Together, exit_has, has_exit, together_part, exits_alike, part_found, rest_found, joined_three}
 
-module _ (s : Stored) (sound : IsSoundStore s) (root : ℕ) (root_in : IsNumber s root) (r : Range) where
+module _ (s : Stored) (sound : IsSoundStore s) (root : ℕ) (root_in : IsFamilyNumber s root) (r : Range) where
   -- what follows a part in an entry, where the unit is a module
   entry_part : (e x : ℕ) (p a : List ℕ) → family s e ≡ section r.from p (family s root) → a ≢ []
       → section r.to a (family s e) ≢ [] → exit (family s root) r p a ≢ []

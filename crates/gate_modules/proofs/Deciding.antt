@@ -11,11 +11,11 @@ use Rattle.zdd_families.specs.Sections.{section}
 use Rattle.zdd_families.proofs.Gates.{order-refl}
 use Rattle.zdd_families.proofs.Laws.{has_each}
 use Rattle.zdd_families.proofs.Sections.{section-nil}
-use Rattle.zdd_nodes.specs.Nodes.{Stored, family, IsNumber, IsSoundStore}
+use Rattle.zdd_nodes.specs.Nodes.{Stored, family, IsFamilyNumber, IsSoundStore}
 use Rattle.gate_modules.specs.Ends.{IsSectionAt}
 use Rattle.gate_modules.specs.Ends.IsSectionAt.{empty, taken}
 use Rattle.event_bounds.specs.Bounds.{AllEnd, AtLeast, EndsBelow, HasBelow}
-use Rattle.gate_modules.specs.Entries.{AreEntries, IsEntryExit, EntryDiffers}
+use Rattle.gate_modules.specs.Entries.{AreSectionsAt, IsEntryExit, EntryDiffers}
 use Rattle.gate_modules.specs.Modules.{IsPartOfUnit, IsModule}
 use Rattle.gate_modules.specs.Parts.{AreSomeHeads}
 use Rattle.gate_modules.specs.Deciding.{IsModuleWith}
@@ -66,8 +66,8 @@ two_sets (x ∷ y ∷ hs) f l = record {
     apart : Equal ≡ Less → ⊥
     apart e = absurd (cc)
 
-module _ (s : Stored) (sound : IsSoundStore s) (root : ℕ) (root_in : IsNumber s root) (r : Range) (es : List ℕ)
-    (entries : AreEntries s r.from root es) where
+module _ (s : Stored) (sound : IsSoundStore s) (root : ℕ) (root_in : IsFamilyNumber s root) (r : Range) (es : List ℕ)
+    (entries : AreSectionsAt s r.from root es) where
   -- without an event there is no part
   pub none_is_module : AllEnd s r.to es → IsModule (family s root) r → ⊥
   none_is_module ends m = elim (entries.covered f.p) [

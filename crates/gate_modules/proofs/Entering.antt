@@ -5,18 +5,18 @@ use Rattle.ar_base.proofs.Standing.{one_left, one_right, one_split, only_item, o
 use Rattle.zdd_families.specs.Families.{Family}
 use Rattle.zdd_families.specs.Sections.{section}
 use Rattle.zdd_families.proofs.Sections.{section-with, section-above, section-low}
-use Rattle.zdd_nodes.specs.Nodes.{Stored, family, IsNumber}
+use Rattle.zdd_nodes.specs.Nodes.{Stored, family, IsFamilyNumber}
 use Rattle.gate_modules.specs.Ends.{IsSectionAt}
 use Rattle.gate_modules.specs.Ends.IsSectionAt.{empty, taken}
 use Rattle.event_bounds.specs.Bounds.{EndsBelow, HasBelow}
-use Rattle.gate_modules.specs.Entries.{IsCovered, AreSeen, Adds, AreEntries, IsExit, IsEntryExit}
+use Rattle.gate_modules.specs.Entries.{IsCovered, AreSeen, AddsSections, AreSectionsAt, IsExit, IsEntryExit}
 use Rattle.gate_modules.proofs.Sections.{section_lower, section_end, starts_above, by_start, ByStart}
 use Rattle.gate_modules.proofs.Sections.ByStart.{with_it, without_it}
-use Rattle.gate_modules.specs.Entries.IsReached.{here, up}
+use Rattle.gate_modules.specs.Entries.IsNumberReached.{here, up}
 use Rattle.gate_modules.proofs.Tables.{stands_set}
 
 module _ (s : Stored) (from : ℕ) where
-  pub covered_more : (n : ℕ) (f : Family) (old new : List ℕ) → IsCovered s from old f → Adds s from n old new
+  pub covered_more : (n : ℕ) (f : Family) (old new : List ℕ) → IsCovered s from old f → AddsSections s from n old new
       → IsCovered s from new f
   covered_more n f old new c a p = elim (c p) [
     | inl none ↦ inl none
@@ -46,7 +46,7 @@ module _ (s : Stored) (from : ℕ) where
       at k (inl e) = subst (λ z. IsCovered s from es (family s z)) (sym e.0) c
       at k (inr i) = a.each k i
 
-  pub seen_more : (n : ℕ) (seen : List Bool) (old new : List ℕ) → AreSeen s from seen old → Adds s from n old new
+  pub seen_more : (n : ℕ) (seen : List Bool) (old new : List ℕ) → AreSeen s from seen old → AddsSections s from n old new
       → AreSeen s from seen new
   seen_more n seen old new a d = record { each = λ k i. covered_more n (family s k) old new (a.each k i) d }
 
@@ -66,8 +66,8 @@ module _ (s : Stored) (from : ℕ) where
       taken (v ∷ p) (e ∙ sym (ap (section from (v ∷ p)) b.node.is
       ∙ section-with v from p (family s lo) (family s hi) b.below b.node.lo_above))
 
-  pub adds_node : (n v lo hi : ℕ) (old mid new : List ℕ) → HasBelow s from n v lo hi → Adds s from hi old mid
-      → Adds s from lo mid new → Adds s from n old new
+  pub adds_node : (n v lo hi : ℕ) (old mid new : List ℕ) → HasBelow s from n v lo hi → AddsSections s from hi old mid
+      → AddsSections s from lo mid new → AddsSections s from n old new
   adds_node n v lo hi old mid new b x y = record {
     added = x.added ++ y.added;
     is = y.is ∙ ap (λ z. z ++ y.added) x.is ∙ append_assoc old x.added y.added;
@@ -78,7 +78,7 @@ module _ (s : Stored) (from : ℕ) where
     ];
   }
 
-  pub adds_none : (n : ℕ) (old : List ℕ) → Adds s from n old old
+  pub adds_none : (n : ℕ) (old : List ℕ) → AddsSections s from n old old
   adds_none n old = record {
     added = [];
     is = sym (append_nil old);
@@ -96,17 +96,17 @@ module _ (s : Stored) (from : ℕ) where
     | inr none ↦ inl none.1
   ]
 
-  pub adds_leaf : (n : ℕ) (old : List ℕ) → IsNumber s n → EndsBelow s from n → Adds s from n old (old ++ n ∷ [])
+  pub adds_leaf : (n : ℕ) (old : List ℕ) → IsFamilyNumber s n → EndsBelow s from n → AddsSections s from n old (old ++ n ∷ [])
   adds_leaf n old in_store h = record {
     added = n ∷ [];
     is = refl;
-    inside = λ e i. subst (IsNumber s) (only_item n e i) in_store;
+    inside = λ e i. subst (IsFamilyNumber s) (only_item n e i) in_store;
     sections = λ e i. subst (λ z. IsSectionAt from (family s n) (family s z)) (only_item n e i)
         (taken [] (sym (section-low from (family s n) h.at_least)));
   }
 
-  pub entries_from : (n : ℕ) (es : List ℕ) → IsCovered s from es (family s n) → Adds s from n [] es
-      → AreEntries s from n es
+  pub entries_from : (n : ℕ) (es : List ℕ) → IsCovered s from es (family s n) → AddsSections s from n [] es
+      → AreSectionsAt s from n es
   entries_from n es c a = record {
     covered = c;
     inside = λ e i. a.inside e (subst (λ z. IsOneOf z e) a.is i);
@@ -117,7 +117,7 @@ module _ (s : Stored) (from : ℕ) where
 pub exit_up : (s : Stored) (to n v lo hi x : ℕ) → HasBelow s to n v lo hi → IsExit s to hi x → IsExit s to n x
 exit_up s to n v lo hi x h e = record { at_most = (let l = h.node.hi_before in omega (arith, l, e.at_most)); inside = e.inside; some = e.some; taken = v ∷ e.taken; is = ap (section to (v ∷ e.taken)) h.node.is ∙ section-with v to e.taken (family s lo) (family s hi) h.below h.node.lo_above ∙ e.is; reached = up h e.reached; ends = e.ends }
 
-pub exit_end : (s : Stored) (to n : ℕ) → IsNumber s n → 0 < n → EndsBelow s to n → IsExit s to n n
+pub exit_end : (s : Stored) (to n : ℕ) → IsFamilyNumber s n → 0 < n → EndsBelow s to n → IsExit s to n n
 exit_end s to n inside some h = record {
   at_most = omega arith;
   inside = inside;

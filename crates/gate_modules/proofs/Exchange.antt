@@ -10,7 +10,7 @@ use Rattle.zdd_families.proofs.Laws.{each_of}
 use Rattle.zdd_families.proofs.Minimal.{member_of}
 use Rattle.zdd_families.proofs.OneList.{same_sets}
 use Rattle.zdd_families.proofs.Sections.{AtLeast, section-with, section-low, section-nil}
-use Rattle.zdd_nodes.specs.Nodes.{Stored, family, IsNumber, IsNode, IsSoundStore}
+use Rattle.zdd_nodes.specs.Nodes.{Stored, family, IsFamilyNumber, IsNode, IsSoundStore}
 use Rattle.gate_modules.specs.Modules.{lies, inside, outside, joined_sets, IsPartOfUnit, IsRest, IsModule}
 use Rattle.gate_modules.specs.declared.ranges.Range.{Range}
 use Rattle.gate_modules.proofs.Sections.{section_end, section_lower, by_start, ByStart}
@@ -139,8 +139,8 @@ unit_section i x p = refl
 
 module _ (s : Stored) (sound : IsSoundStore s) where
   -- each section of a stored family is stored
-  section_below : (bound i : ℕ) (p : List ℕ) (n : ℕ) → n < bound → IsNumber s n
-      → (k : ℕ) × IsNumber s k × (section i p (family s n) ≡ family s k)
+  section_below : (bound i : ℕ) (p : List ℕ) (n : ℕ) → n < bound → IsFamilyNumber s n
+      → (k : ℕ) × IsFamilyNumber s k × (section i p (family s n) ≡ family s k)
   section_below zero i p n l inside = absurd (omega (arith, l))
   section_below (suc bound) i p zero l inside = (0, inside, section-nil i p)
   section_below (suc bound) i [] (suc zero) l inside = (1, inside, section-low i ([] ∷ []) (tt, tt))
@@ -154,13 +154,13 @@ module _ (s : Stored) (sound : IsSoundStore s) where
       (omega (arith, inside, t.halves.hi_before))) p (cases_lt t.event i) (by_start t.event p)
     where
       Found : List ℕ → Type 0
-      Found q = (k : ℕ) × IsNumber s k × (section i q (family s (suc (suc n))) ≡ family s k)
+      Found q = (k : ℕ) × IsFamilyNumber s k × (section i q (family s (suc (suc n))) ≡ family s k)
 
       at_node : (v lo hi : ℕ) → IsNode s.families (suc (suc n)) v lo hi
-          → ((q : List ℕ) → (k : ℕ) × IsNumber s k × (section i q (family s lo) ≡ family s k))
-          → ((q : List ℕ) → (k : ℕ) × IsNumber s k × (section i q (family s hi) ≡ family s k))
+          → ((q : List ℕ) → (k : ℕ) × IsFamilyNumber s k × (section i q (family s lo) ≡ family s k))
+          → ((q : List ℕ) → (k : ℕ) × IsFamilyNumber s k × (section i q (family s hi) ≡ family s k))
           → (q : List ℕ) → (v < i) ⊎ (i ≤ v) → ByStart v q
-          → (k : ℕ) × IsNumber s k × (section i q (family s (suc (suc n))) ≡ family s k)
+          → (k : ℕ) × IsFamilyNumber s k × (section i q (family s (suc (suc n))) ≡ family s k)
       at_node v lo hi h below_lo below_hi _ (inl l) (with_it q) =
           let r = below_hi q in (r.0, r.1, ap (section i (v ∷ q)) h.is ∙ section-with v i q (family s lo) (family s hi) l h.lo_above ∙ r.2)
       at_node v lo hi h below_lo below_hi _ (inl l) (without_it q e) =
@@ -171,14 +171,14 @@ module _ (s : Stored) (sound : IsSoundStore s) where
             | inr e ↦ (0, omega (arith, inside), e.1)
           ]
 
-  pub section_number : (i : ℕ) (p : List ℕ) (n : ℕ) → IsNumber s n
-      → (k : ℕ) × IsNumber s k × (section i p (family s n) ≡ family s k)
+  pub section_number : (i : ℕ) (p : List ℕ) (n : ℕ) → IsFamilyNumber s n
+      → (k : ℕ) × IsFamilyNumber s k × (section i p (family s n) ≡ family s k)
   section_number i p n inside = section_below (suc n) i p n (omega arith) inside
 
-  pub ascending : (n : ℕ) → IsNumber s n → AllByRecursion IsAscending (family s n)
+  pub ascending : (n : ℕ) → IsFamilyNumber s n → AllByRecursion IsAscending (family s n)
   ascending n inside = each_of _ IsAscending is_ascending (family s n) (sound.families n inside).ascending
 
-  pub section_ascending : (i : ℕ) (p : List ℕ) (n : ℕ) → IsNumber s n
+  pub section_ascending : (i : ℕ) (p : List ℕ) (n : ℕ) → IsFamilyNumber s n
       → AllByRecursion IsAscending (section i p (family s n))
   section_ascending i p n inside = let k = section_number i p n inside in subst (AllByRecursion IsAscending) (sym k.2) (ascending k.0 k.1)
 
@@ -191,7 +191,7 @@ pub record Together (f : Family) (r : Range) (p part q : List ℕ) : Type 0 wher
   pub three : Three r p part q
   pub whole : has f (p ++ (part ++ q)) ≡ true
 
-module _ (s : Stored) (sound : IsSoundStore s) (root : ℕ) (root_in : IsNumber s root) (r : Range) where
+module _ (s : Stored) (sound : IsSoundStore s) (root : ℕ) (root_in : IsFamilyNumber s root) (r : Range) where
   -- what an exit has
   pub exit_has : (p part q : List ℕ) → part ≢ [] → has (exit (family s root) r p part) q ≡ true
       → Together (family s root) r p part q

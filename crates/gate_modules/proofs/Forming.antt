@@ -7,7 +7,7 @@ use Rattle.ar_base.specs.Lists.{IsOneOf}
 use Rattle.ar_base.proofs.Standing.{one_first, one_rest, one_cases, one_none, stands_map_back, one_here, stands_map}
 use Rattle.zdd_families.specs.Families.{Family, same}
 use Rattle.zdd_families.specs.FamiliesInside.{node, IsAbove}
-use Rattle.zdd_families.specs.Behind.{behind}
+use Rattle.zdd_families.specs.Behind.{behind_events}
 use Rattle.zdd_families.proofs.Laws.{IsAbove_set, same-true, same-above, eqb-refl, each_of}
 use Rattle.zdd_families.proofs.Behind.{behind_node}
 use Rattle.gate_modules.specs.Forms.{AreOfDifferentUnits}
@@ -130,7 +130,7 @@ all_mapped P g [] h = tt
 all_mapped P g (s ∷ f) h = (h.0, all_mapped P g f h.1)
 
 all_behind : (P : List ℕ → Type 0) (p : List ℕ) (f : Family) → AllByRecursion (λ s. P (p ++ s)) f
-    → AllByRecursion P (behind p f)
+    → AllByRecursion P (behind_events p f)
 all_behind P p [] h = tt
 all_behind P p (s ∷ f) h = (h.0, all_behind P p f h.1)
 
@@ -141,22 +141,22 @@ every P (s ∷ f) h = (h s, every P f h)
 module _ (chosen : List Range) (d : AreOfDifferentUnits chosen) (taken : List ℕ) (v : ℕ) where
   -- the forms of these sets behind the taken events and v, and of those behind the taken events
   abbrev pub with_v : Family → List ShortForm
-  with_v X = map (short_form chosen) (behind (taken ++ v ∷ []) X)
+  with_v X = map (short_form chosen) (behind_events (taken ++ v ∷ []) X)
 
   abbrev pub without_v : Family → List ShortForm
-  without_v R = map (short_form chosen) (behind taken R)
+  without_v R = map (short_form chosen) (behind_events taken R)
 
   all_differ : (X R : Family) (A B : List ℕ → Type 0) → AllByRecursion A X → AllByRecursion B R
       → ((s t : List ℕ) → A s → B t → same_form (short_form chosen ((taken ++ v ∷ []) ++ s))
       (short_form chosen (taken ++ t)) ≡ false)
       → AllByRecursion (λ b. is_new (with_v X) b ≡ true) (without_v R)
   all_differ X R A B ax br h =
-      all_mapped (λ b. is_new (with_v X) b ≡ true) (short_form chosen) (behind taken R)
+      all_mapped (λ b. is_new (with_v X) b ≡ true) (short_form chosen) (behind_events taken R)
       (all_behind (λ s. is_new (with_v X) (short_form chosen s) ≡ true) taken R
       (each_of B (λ t. is_new (with_v X) (short_form chosen (taken ++ t)) ≡ true)
       (λ t bt. new_from (with_v X) (short_form chosen (taken ++ t))
       (all_mapped (λ a. same_form a (short_form chosen (taken ++ t)) ≡ false) (short_form chosen)
-      (behind (taken ++ v ∷ []) X)
+      (behind_events (taken ++ v ∷ []) X)
       (all_behind (λ s. same_form (short_form chosen s) (short_form chosen (taken ++ t)) ≡ false) (taken ++ v ∷ []) X
       (each_of A (λ s. same_form (short_form chosen ((taken ++ v ∷ []) ++ s)) (short_form chosen (taken ++ t)) ≡ false)
       (λ s a. h s t a bt) X ax)))) R br))
@@ -185,10 +185,10 @@ module _ (chosen : List Range) (d : AreOfDifferentUnits chosen) (taken : List �
           ∙ same-above v (filter q s) (filter q t) (all_filter (λ x. v < x) q t above))
 
   pub once_uncovered : is_covered chosen v ≡ false → (lo hi : Family) → IsAbove v lo
-      → once (map (short_form chosen) (behind taken (node v lo hi))) ≡ once (with_v hi) ++ once (without_v lo)
+      → once (map (short_form chosen) (behind_events taken (node v lo hi))) ≡ once (with_v hi) ++ once (without_v lo)
   once_uncovered u lo hi up =
       ap once (ap (map (short_form chosen)) (behind_node taken v lo hi)
-      ∙ map-append (short_form chosen) (behind (taken ++ v ∷ []) hi) (behind taken lo))
+      ∙ map-append (short_form chosen) (behind_events (taken ++ v ∷ []) hi) (behind_events taken lo))
       ∙ once_apart (with_v hi) (without_v lo) (apart_by_event u hi lo up)
 
   -- where v is of a unit, the units tell the forms apart
@@ -282,26 +282,26 @@ module _ (chosen : List Range) (d : AreOfDifferentUnits chosen) (taken : List �
         form u e = record { units = u; events = e }
 
     part_forms : (a : List ℕ) (X : Family) → a ≢ [] → AllIn r a
-        → map (short_form chosen) (behind taken (behind a X)) ≡ with_v X
+        → map (short_form chosen) (behind_events taken (behind_events a X)) ≡ with_v X
     part_forms a [] n h = refl
     part_forms a (q ∷ X) n h = ap₂ (λ x y. x ∷ y) (form_alike a q n h) (part_forms a X n h)
 
     pub forms_repeated : (X R heads : Family) → AllByRecursion (λ a. AllIn r a × (a ≢ [])) heads
-        → map (short_form chosen) (behind taken (flat_map (λ a. behind a X) heads ++ R))
+        → map (short_form chosen) (behind_events taken (flat_map (λ a. behind_events a X) heads ++ R))
         ≡ repeated (length heads) (with_v X) (without_v R)
     forms_repeated X R [] h = refl
     forms_repeated X R (a ∷ heads) h =
-        ap (λ z. map (short_form chosen) (behind taken z))
-        (append_assoc (behind a X) (flat_map (λ a. behind a X) heads) R)
-        ∙ ap (map (short_form chosen)) (map-append (λ t. taken ++ t) (behind a X)
-        (flat_map (λ a. behind a X) heads ++ R))
-        ∙ map-append (short_form chosen) (behind taken (behind a X))
-        (behind taken (flat_map (λ a. behind a X) heads ++ R))
+        ap (λ z. map (short_form chosen) (behind_events taken z))
+        (append_assoc (behind_events a X) (flat_map (λ a. behind_events a X) heads) R)
+        ∙ ap (map (short_form chosen)) (map-append (λ t. taken ++ t) (behind_events a X)
+        (flat_map (λ a. behind_events a X) heads ++ R))
+        ∙ map-append (short_form chosen) (behind_events taken (behind_events a X))
+        (behind_events taken (flat_map (λ a. behind_events a X) heads ++ R))
         ∙ ap₂ (λ x y. x ++ y) (part_forms a X h.0.1 h.0.0) (forms_repeated X R heads h.1)
 
     pub once_covered : touches taken r ≡ false → (X R heads : Family) → heads ≢ []
         → AllByRecursion (λ a. AllIn r a × (a ≢ [])) heads → AllByRecursion (AtLeast r.to) R
-        → once (map (short_form chosen) (behind taken (flat_map (λ a. behind a X) heads ++ R)))
+        → once (map (short_form chosen) (behind_events taken (flat_map (λ a. behind_events a X) heads ++ R)))
         ≡ once (with_v X) ++ once (without_v R)
     once_covered none X R [] some h high = absurd (some refl)
     once_covered none X R (a ∷ heads) some h high =
@@ -323,7 +323,7 @@ touched_at r (x ∷ xs) (suc k) d l h =
 -- the forms of a leaf
 pub leaf_forms : (chosen : List Range) (taken : List ℕ) (s : Stored) (n : ℕ) (old new : List ShortForm) → n < 2
     → (n ≡ 0 → new ≡ old) → (n ≡ 1 → new ≡ old ++ short_form chosen taken ∷ [])
-    → new ≡ old ++ once (map (short_form chosen) (behind taken (family s n)))
+    → new ≡ old ++ once (map (short_form chosen) (behind_events taken (family s n)))
 leaf_forms chosen taken s zero old new l none one = none refl ∙ sym (append_nil old)
   where
     append_nil : (xs : List ShortForm) → xs ++ [] ≡ xs

@@ -3,38 +3,38 @@ use Rattle.std.proofs.Common.{◌≡◌, ◌≢◌, ◌⊎◌, inl, inr, ⊎_eli
 use Rattle.std.proofs.lemmas.Bool.{cases_lt}
 use Rattle.zdd_families.specs.Families.{Family}
 use Rattle.zdd_families.specs.FamiliesInside.{node, IsAbove}
-use Rattle.zdd_nodes.specs.Nodes.{Stored, family, IsNumber, IsNode, IsSoundStore}
+use Rattle.zdd_nodes.specs.Nodes.{Stored, family, IsFamilyNumber, IsNode, IsSoundStore}
 use Rattle.zdd_nodes.proofs.Lists.{same_number, some_sets, node_above}
 use Rattle.gate_modules.specs.Ends.{Agree, AgreeSome}
 use Rattle.event_bounds.specs.Bounds.{EndsBelow, HasBelow}
-use Rattle.gate_modules.specs.Walked.{Agrees, AgreesSome, AreEnds}
+use Rattle.gate_modules.specs.Walked.{HaveTwinFamilies, AgreesSome, AreEnds}
 use Rattle.gate_modules.specs.declared.twins.Question.{Question}
 use Rattle.gate_modules.proofs.Sections.{agree_node, agree_upper, agree_lower, some_node, some_upper, some_lower, differ_first, differ_second, all_agree, none_from_end, none_from_above, agree_ends, ends_agree, ends_some}
 
 module _ (s : Stored) (sound : IsSoundStore s) where
-  pub number_of : (n m : ℕ) → IsNumber s n → IsNumber s m → family s n ≡ family s m → n ≡ m
+  pub number_of : (n m : ℕ) → IsFamilyNumber s n → IsFamilyNumber s m → family s n ≡ family s m → n ≡ m
   number_of n m p q e = same_number s.families sound.different n m p q e
 
-  pub not_empty : (n : ℕ) → 0 < n → IsNumber s n → family s n ≢ []
+  pub not_empty : (n : ℕ) → 0 < n → IsFamilyNumber s n → family s n ≢ []
   not_empty n l p = some_sets s.families sound.different n l p
 
-  pub lo_in : (n v lo hi : ℕ) → IsNumber s n → IsNode s.families n v lo hi → IsNumber s lo
+  pub lo_in : (n v lo hi : ℕ) → IsFamilyNumber s n → IsNode s.families n v lo hi → IsFamilyNumber s lo
   lo_in n v lo hi p i = omega (arith, p, i.lo_before)
 
-  pub hi_in : (n v lo hi : ℕ) → IsNumber s n → IsNode s.families n v lo hi → IsNumber s hi
+  pub hi_in : (n v lo hi : ℕ) → IsFamilyNumber s n → IsNode s.families n v lo hi → IsFamilyNumber s hi
   hi_in n v lo hi p i = omega (arith, p, i.hi_before)
 
-  module _ (asked : Question) (ends : AreEnds s asked) (n m : ℕ) (n_in : IsNumber s n) (m_in : IsNumber s m) where
+  module _ (asked : Question) (ends : AreEnds s asked) (n m : ℕ) (n_in : IsFamilyNumber s n) (m_in : IsFamilyNumber s m) where
     pub ends_are : EndsBelow s asked.to n → EndsBelow s asked.to m
-        → ((n ≡ 0) × (m ≡ 0)) ⊎ ((n ≡ asked.end.n) × (m ≡ asked.node_end.n)) → Agrees s asked n m
+        → ((n ≡ 0) × (m ≡ 0)) ⊎ ((n ≡ asked.end.n) × (m ≡ asked.node_end.n)) → HaveTwinFamilies s asked n m
     ends_are a b h = agree_ends asked.to (family s n) (family s m) (family s asked.end.n) (family s asked.node_end.n)
         a.at_least b.at_least
         (⊎_elim (λ e. inl (ap (family s) e.0, ap (family s) e.1)) (λ e. inr (ap (family s) e.0, ap (family s) e.1)) h)
 
-    zero_in : IsNumber s 0
+    zero_in : IsFamilyNumber s 0
     zero_in = omega arith
 
-    pub are_ends : EndsBelow s asked.to n → EndsBelow s asked.to m → Agrees s asked n m
+    pub are_ends : EndsBelow s asked.to n → EndsBelow s asked.to m → HaveTwinFamilies s asked n m
         → ((n ≡ 0) × (m ≡ 0)) ⊎ ((n ≡ asked.end.n) × (m ≡ asked.node_end.n))
     are_ends a b g = ⊎_elim
         (λ e. inl (number_of n 0 n_in zero_in e.0, number_of m 0 m_in zero_in e.1))
@@ -103,27 +103,27 @@ module _ (s : Stored) (sound : IsSoundStore s) where
       second_above : v ≡ w → IsAbove v (family s lo2)
       second_above e = subst (λ z. IsAbove z (family s lo2)) (sym e) b.node.lo_above
 
-      pub both_halves : v ≡ w → Agrees s asked lo lo2 → Agrees s asked hi hi2 → Agrees s asked n m
+      pub both_halves : v ≡ w → HaveTwinFamilies s asked lo lo2 → HaveTwinFamilies s asked hi hi2 → HaveTwinFamilies s asked n m
       both_halves e g h = opened (λ f k. Agree asked.to f k (family s asked.end.n) (family s asked.node_end.n)) e
           (agree_node asked.to v (family s lo) (family s hi) (family s lo2) (family s hi2) (family s asked.end.n)
           (family s asked.node_end.n) a.below a.node.lo_above (second_above e) g h)
 
-      pub upper_half : v ≡ w → Agrees s asked n m → Agrees s asked hi hi2
+      pub upper_half : v ≡ w → HaveTwinFamilies s asked n m → HaveTwinFamilies s asked hi hi2
       upper_half e g = agree_upper asked.to v (family s lo) (family s hi) (family s lo2) (family s hi2)
           (family s asked.end.n) (family s asked.node_end.n) a.below a.node.lo_above (second_above e)
           (closed (λ f k. Agree asked.to f k (family s asked.end.n) (family s asked.node_end.n)) e g)
 
-      pub lower_half : v ≡ w → Agrees s asked n m → Agrees s asked lo lo2
+      pub lower_half : v ≡ w → HaveTwinFamilies s asked n m → HaveTwinFamilies s asked lo lo2
       lower_half e g = agree_lower asked.to v (family s lo) (family s hi) (family s lo2) (family s hi2)
           (family s asked.end.n) (family s asked.node_end.n) a.below a.node.lo_above (second_above e)
           (closed (λ f k. Agree asked.to f k (family s asked.end.n) (family s asked.node_end.n)) e g)
 
-      pub some_halves : v ≡ w → AgreesSome s asked lo lo2 → Agrees s asked hi hi2 → AgreesSome s asked n m
+      pub some_halves : v ≡ w → AgreesSome s asked lo lo2 → HaveTwinFamilies s asked hi hi2 → AgreesSome s asked n m
       some_halves e g h = opened (λ f k. AgreeSome asked.to f k (family s asked.end.n) (family s asked.node_end.n)) e
           (some_node asked.to v (family s lo) (family s hi) (family s lo2) (family s hi2) (family s asked.end.n)
           (family s asked.node_end.n) a.below a.node.lo_above (second_above e) g h)
 
-      pub some_upper_half : v ≡ w → AgreesSome s asked n m → Agrees s asked hi hi2
+      pub some_upper_half : v ≡ w → AgreesSome s asked n m → HaveTwinFamilies s asked hi hi2
       some_upper_half e g = some_upper asked.to v (family s lo) (family s hi) (family s lo2) (family s hi2)
           (family s asked.end.n) (family s asked.node_end.n) a.below a.node.lo_above (second_above e)
           (closed (λ f k. AgreeSome asked.to f k (family s asked.end.n) (family s asked.node_end.n)) e g)
@@ -133,5 +133,5 @@ module _ (s : Stored) (sound : IsSoundStore s) where
           (family s asked.end.n) (family s asked.node_end.n) a.below a.node.lo_above (second_above e)
           (closed (λ f k. AgreeSome asked.to f k (family s asked.end.n) (family s asked.node_end.n)) e g)
 
-    pub some_of : Agrees s asked n m → AgreesSome s asked n m
+    pub some_of : HaveTwinFamilies s asked n m → AgreesSome s asked n m
     some_of g = all_agree asked.to (family s n) (family s m) (family s asked.end.n) (family s asked.node_end.n) g

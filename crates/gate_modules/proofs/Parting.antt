@@ -6,11 +6,11 @@ use Rattle.std.proofs.lemmas.List.Folds.{list_any-append}
 use Rattle.zdd_families.specs.Families.{Family, same, has}
 use Rattle.zdd_families.specs.FamiliesInside.{node, IsAbove}
 use Rattle.zdd_families.specs.Sections.{section}
-use Rattle.zdd_families.specs.Behind.{behind}
+use Rattle.zdd_families.specs.Behind.{behind_events}
 use Rattle.zdd_families.proofs.Laws.{IsAbove_set, has_each, each_of, has-with, list_any-map, list_any-none, every}
 use Rattle.zdd_families.proofs.Sections.{section-with, section-above, section-nil}
 use Rattle.zdd_families.proofs.Behind.{behind_node}
-use Rattle.zdd_nodes.specs.Nodes.{Stored, family, IsNumber, IsSoundStore}
+use Rattle.zdd_nodes.specs.Nodes.{Stored, family, IsFamilyNumber, IsSoundStore}
 use Rattle.zdd_nodes.proofs.Order.{IsFamily-node, IsFamily-nil, IsFamily-unit}
 use Rattle.event_bounds.specs.Bounds.{EndsBelow, HasBelow}
 use Rattle.ar_base.specs.NumbersInside.{EventId}
@@ -114,8 +114,8 @@ module _ (s : Stored) (b : ℕ) where
     are_heads = subst (λ z. AreHeads b z (node v y.heads x.heads)) (sym h.node.is)
         (heads_node b v (family s lo) (family s hi) y.heads x.heads h.below h.node.lo_above h.node.hi_above x.are_heads
         y.are_heads);
-    is = y.is ∙ ap (λ z. z ++ behind taken y.heads) x.is ∙ append_assoc old (behind more x.heads) (behind taken y.heads)
-        ∙ ap (λ z. old ++ z) (ap (λ z. behind z x.heads ++ behind taken y.heads) e
+    is = y.is ∙ ap (λ z. z ++ behind_events taken y.heads) x.is ∙ append_assoc old (behind_events more x.heads) (behind_events taken y.heads)
+        ∙ ap (λ z. old ++ z) (ap (λ z. behind_events z x.heads ++ behind_events taken y.heads) e
         ∙ sym (behind_node taken v y.heads x.heads));
   }
 
@@ -126,8 +126,8 @@ module _ (s : Stored) (b : ℕ) where
     are_heads = subst (λ z. AreSomeHeads b z (node v y.heads x.heads)) (sym h.node.is)
         (some_heads_node b v (family s lo) (family s hi) y.heads x.heads h.below h.node.lo_above h.node.hi_above
         x.are_heads y.are_heads);
-    is = y.is ∙ ap (λ z. z ++ y.heads) x.is ∙ append_assoc old (behind more x.heads) y.heads
-        ∙ ap (λ z. old ++ (z ++ y.heads)) (ap (λ z. behind z x.heads) e);
+    is = y.is ∙ ap (λ z. z ++ y.heads) x.is ∙ append_assoc old (behind_events more x.heads) y.heads
+        ∙ ap (λ z. old ++ (z ++ y.heads)) (ap (λ z. behind_events z x.heads) e);
   }
 
   append_nil : (f : Family) → f ++ [] ≡ f
@@ -138,7 +138,7 @@ module _ (s : Stored) (b : ℕ) where
   adds_no_head n taken old z = record
       { heads = []; are_heads = no_heads b (family s n) (ap (family s) z); is = sym (append_nil old) }
 
-  pub adds_one_head : IsSoundStore s → (n : ℕ) (taken : List ℕ) (old new : Family) → IsNumber s n → (n ≡ 0 → ⊥)
+  pub adds_one_head : IsSoundStore s → (n : ℕ) (taken : List ℕ) (old new : Family) → IsFamilyNumber s n → (n ≡ 0 → ⊥)
       → EndsBelow s b n → new ≡ old ++ taken ∷ [] → AddsHeads s b n taken old new
   adds_one_head sound n taken old new inside z h e = record {
     heads = [] ∷ [];

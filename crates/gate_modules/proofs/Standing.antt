@@ -11,7 +11,7 @@ use Rattle.ar_firing.proofs.OneListing.{ascending_same}
 use Rattle.zdd_families.specs.Families.{Family, has, holds}
 use Rattle.zdd_families.specs.FamiliesInside.{IsFamily}
 use Rattle.zdd_families.proofs.Minimal.{member_of}
-use Rattle.gate_modules.specs.Choices.{IsSetOf, IsChoice, IsMadeOf, ComesFrom, StandFor}
+use Rattle.gate_modules.specs.Choices.{IsSetOf, IsChoice, IsChoiceOf, ComesFrom, StandFor}
 use Rattle.gate_modules.specs.Forms.{AreOfDifferentUnits}
 use Rattle.gate_modules.specs.Modules.{lies, inside, IsPartOfUnit, IsModule}
 use Rattle.gate_modules.specs.ModulesInside.{AreRanges}
@@ -77,7 +77,7 @@ module _ (f : Family) (up : AllByRecursion Ascends f) (chosen : List Range) (mod
   all_or_free a false true k = ap (λ z. (z && true) || true) (sym (k refl))
   all_or_free a b false k = sym (ap₂ (λ x y. x || y) (and_no a false refl) (and_no (not b) false refl))
 
-  made_of_own : (s : List ℕ) → has f s ≡ true → IsMadeOf (short_form chosen s) (map (λ r. inside r s) (touched s)) s
+  made_of_own : (s : List ℕ) → has f s ≡ true → IsChoiceOf (short_form chosen s) (map (λ r. inside r s) (touched s)) s
   made_of_own s h = record {
     ascends = member_of Ascends f s up h;
     each = λ e.
@@ -129,7 +129,7 @@ module _ (f : Family) (up : AllByRecursion Ascends f) (chosen : List Range) (mod
     kept_or_free a false true k = ap not (k refl)
     kept_or_free a b false k = sym (and_no (not b) false refl)
 
-    made_of : IsMadeOf (short_form chosen s) parts exchanged.set
+    made_of : IsChoiceOf (short_form chosen s) parts exchanged.set
     made_of = record {
       ascends = member_of Ascends f exchanged.set up exchanged.among;
       each = λ e. exchanged.each e ∙ ap (λ z. list_any (holds e) parts || z)
@@ -214,13 +214,13 @@ module _ (f : Family) (up : AllByRecursion Ascends f) (chosen : List Range) (mod
       choice_is = parts_are ∙ ap (map (λ r. inside r t)) same_ranges
 
   made_set : (form : ShortForm) (choice : List (List ℕ)) → IsOneOf forms form → IsChoice modules form choice
-      → (set : List ℕ) × (has f set ≡ true) × IsMadeOf form choice set
+      → (set : List ℕ) × (has f set ≡ true) × IsChoiceOf form choice set
   made_set form choice i c =
       let k = form_of_set form i in
       let ps = parts_of (touched k.set) (λ r j. (passed_one (touches k.set) chosen r j).0) choice
       (subst (λ (z : ShortForm). Along (IsSetOf modules) z.units choice) (sym k.is) c) in
       let x = exchanged k.set k.among choice ps in
-      (x.set, x.among, subst (λ z. IsMadeOf z choice x.set) k.is (made_of k.set k.among choice ps))
+      (x.set, x.among, subst (λ z. IsChoiceOf z choice x.set) k.is (made_of k.set k.among choice ps))
 
   -- the form and the choice by the set
   told : (set : List ℕ) (a : ComesFrom modules forms set)

@@ -8,14 +8,14 @@ use Rattle.ar_base.specs.Lists.{IsOneOf}
 use Rattle.zdd_families.specs.Families.{Family}
 use Rattle.zdd_families.specs.FamiliesInside.{node, IsAbove}
 use Rattle.zdd_families.specs.Sections.{section}
-use Rattle.zdd_families.specs.Behind.{behind}
+use Rattle.zdd_families.specs.Behind.{behind_events}
 use Rattle.zdd_families.proofs.Laws.{IsAbove_set, each_of}
 use Rattle.zdd_families.proofs.Sections.{section-with, section-low, section-nil}
 use Rattle.zdd_families.proofs.Behind.{behind_none}
-use Rattle.zdd_nodes.specs.Nodes.{Stored, family, IsNumber, IsNode, IsSoundStore, HasHalves}
-use Rattle.gate_modules.specs.Entries.{IsReached, IsExit, IsEntryExit}
-use Rattle.gate_modules.specs.Entries.IsReached.{here, up, down}
-use Rattle.gate_modules.specs.Forms.{AreOfDifferentUnits, GoesOnAlike, IsFit, AddsForms, IsSkip}
+use Rattle.zdd_nodes.specs.Nodes.{Stored, family, IsFamilyNumber, IsNode, IsSoundStore, HasHalves}
+use Rattle.gate_modules.specs.Entries.{IsNumberReached, IsExit, IsEntryExit}
+use Rattle.gate_modules.specs.Entries.IsNumberReached.{here, up, down}
+use Rattle.gate_modules.specs.Forms.{AreOfDifferentUnits, GoesOnAlike, PassesTaken, AddsForms, IsSkip}
 use Rattle.gate_modules.specs.Modules.{lies}
 use Rattle.gate_modules.specs.Shortened.{ShortForm, touches, is_covered, short_form, once}
 use Rattle.event_bounds.specs.Bounds.{AtLeast, EndsBelow, HasBelow}
@@ -85,7 +85,7 @@ halves_at_least i v lo [] a = (tt, a)
 halves_at_least i v lo (s ∷ hi) a = let t = halves_at_least i v lo hi a.1 in ((a.0.1, t.0), t.1)
 
 module _ (s : Stored) (to : ℕ) where
-  pub reached_at_least : (i : ℕ) {n x : ℕ} → IsReached s to n x → AllByRecursion (AtLeast i) (family s n)
+  pub reached_at_least : (i : ℕ) {n x : ℕ} → IsNumberReached s to n x → AllByRecursion (AtLeast i) (family s n)
       → AllByRecursion (AtLeast i) (family s x)
   reached_at_least i (here n) a = a
   reached_at_least i (up {v = v} {lo = lo} {hi = hi} h k) a =
@@ -96,7 +96,7 @@ module _ (s : Stored) (to : ℕ) where
       (subst (AllByRecursion (AtLeast i)) h.node.is a)).1
 
   pub reached_alike : (r : Range) (low : ℕ) → ((e : ℕ) → low ≤ e → e < to → lies r e ≡ false) → {n x : ℕ}
-      → IsReached s to n x → AllByRecursion (AtLeast low) (family s n) → GoesOnAlike r (family s n)
+      → IsNumberReached s to n x → AllByRecursion (AtLeast low) (family s n) → GoesOnAlike r (family s n)
       → GoesOnAlike r (family s x)
   reached_alike r low free (here n) a g = g
   reached_alike r low free (up {v = v} {lo = lo} {hi = hi} h k) a g =
@@ -121,7 +121,7 @@ module _ (s : Stored) (to : ℕ) where
     ends = k.ends;
   }
 
-  pub skip_end : (n : ℕ) → IsNumber s n → EndsBelow s to n → IsSkip s to n n
+  pub skip_end : (n : ℕ) → IsFamilyNumber s n → EndsBelow s to n → IsSkip s to n n
   skip_end n inside h = record {
     inside = inside;
     at_most = omega arith;
@@ -136,19 +136,19 @@ append_nil [] = refl
 append_nil (x ∷ f) = ap (λ z. x ∷ z) (append_nil f)
 
 abbrev flat : Family → Family → Family
-flat X heads = flat_map (λ a. behind a X) heads
+flat X heads = flat_map (λ a. behind_events a X) heads
 
-with_first : (v : ℕ) (a : List ℕ) (X : Family) → behind (v ∷ a) X ≡ map (λ t. v ∷ t) (behind a X)
+with_first : (v : ℕ) (a : List ℕ) (X : Family) → behind_events (v ∷ a) X ≡ map (λ t. v ∷ t) (behind_events a X)
 with_first v a [] = refl
 with_first v a (q ∷ X) = ap (λ z. (v ∷ (a ++ q)) ∷ z) (with_first v a X)
 
 flat_with : (v : ℕ) (X H : Family) → flat X (map (λ t. v ∷ t) H) ≡ map (λ t. v ∷ t) (flat X H)
 flat_with v X [] = refl
 flat_with v X (a ∷ H) = ap₂ (λ y z. y ++ z) (with_first v a X) (flat_with v X H)
-    ∙ sym (map-append (λ t. v ∷ t) (behind a X) (flat X H))
+    ∙ sym (map-append (λ t. v ∷ t) (behind_events a X) (flat X H))
 
 flat_node : (v : ℕ) (X L H : Family) → flat X (node v L H) ≡ map (λ t. v ∷ t) (flat X H) ++ flat X L
-flat_node v X L H = flat_map-append (λ a. behind a X) (map (λ t. v ∷ t) H) L ∙ ap (λ z. z ++ flat X L) (flat_with v X H)
+flat_node v X L H = flat_map-append (λ a. behind_events a X) (map (λ t. v ∷ t) H) L ∙ ap (λ z. z ++ flat X L) (flat_with v X H)
 
 all_node : (P : List ℕ → Type 0) (v : ℕ) (L H : Family) → AllByRecursion (λ a. P (v ∷ a)) H → AllByRecursion P L
     → AllByRecursion P (node v L H)
@@ -198,7 +198,7 @@ module _ (s : Stored) (sound : IsSoundStore s) (r : Range) (X : Family) where
     at_end : EndsBelow s r.to n → ByEnd n
     at_node : (v lo hi : ℕ) → HasBelow s r.to n v lo hi → ByEnd n
 
-  by_end : (n : ℕ) → IsNumber s n → ByEnd n
+  by_end : (n : ℕ) → IsFamilyNumber s n → ByEnd n
   by_end n inside = elim (cases_lt n 2)
       [ inl l ↦ at_end (ends_at_leaf s r.to n l) | inr l ↦ node_case (sound.nodes n l inside) ]
     where
@@ -221,7 +221,7 @@ module _ (s : Stored) (sound : IsSoundStore s) (r : Range) (X : Family) where
   with_all v [] l h = tt
   with_all v (a ∷ H) l h = ((l, h.0), with_all v H l h.1)
 
-  expand : (bound n : ℕ) → n < bound → IsNumber s n → AllByRecursion (AtLeast r.from) (family s n)
+  expand : (bound n : ℕ) → n < bound → IsFamilyNumber s n → AllByRecursion (AtLeast r.from) (family s n)
       → FollowsAll (family s n) → Expanded r X (family s n)
   expand zero n l inside a f = absurd (omega (arith, l))
   expand (suc bound) n l inside a f = by (by_end n inside) (λ m k i b g. expand bound m (omega (arith, l, k)) i b g)
@@ -232,10 +232,10 @@ module _ (s : Stored) (sound : IsSoundStore s) (r : Range) (X : Family) where
       leaf h (inr e) = record {
         heads = [] ∷ [];
         in_range = (tt, tt);
-        is = sym (section-low r.to (family s n) h.at_least) ∙ e ∙ sym (append_nil (behind [] X) ∙ behind_none X);
+        is = sym (section-low r.to (family s n) h.at_least) ∙ e ∙ sym (append_nil (behind_events [] X) ∙ behind_none X);
       }
 
-      by : ByEnd n → ((m : ℕ) → m < n → IsNumber s m → AllByRecursion (AtLeast r.from) (family s m)
+      by : ByEnd n → ((m : ℕ) → m < n → IsFamilyNumber s m → AllByRecursion (AtLeast r.from) (family s m)
           → FollowsAll (family s m) → Expanded r X (family s m)) → Expanded r X (family s n)
       by (at_end h) rec = leaf h (f [])
       by (at_node v lo hi h) rec =
@@ -264,13 +264,13 @@ module _ (s : Stored) (sound : IsSoundStore s) (r : Range) (X : Family) where
   node_not_nil v L [] n z = n refl
   node_not_nil v L (a ∷ H) n z = cc
 
-  pub expand_some : (bound n : ℕ) → n < bound → IsNumber s n → AllByRecursion (AtLeast r.from) (family s n)
+  pub expand_some : (bound n : ℕ) → n < bound → IsFamilyNumber s n → AllByRecursion (AtLeast r.from) (family s n)
       → FollowsSome (family s n) → ExpandedSome n
   expand_some zero n l inside a f = absurd (omega (arith, l))
   expand_some (suc bound) n l inside a f =
       by (by_end n inside) (λ m k i b g. expand_some bound m (omega (arith, l, k)) i b g)
     where
-      by : ByEnd n → ((m : ℕ) → m < n → IsNumber s m → AllByRecursion (AtLeast r.from) (family s m)
+      by : ByEnd n → ((m : ℕ) → m < n → IsFamilyNumber s m → AllByRecursion (AtLeast r.from) (family s m)
           → FollowsSome (family s m) → ExpandedSome m) → ExpandedSome n
       by (at_end h) rec = record {
         heads = [];
@@ -297,8 +297,8 @@ module _ (s : Stored) (sound : IsSoundStore s) (r : Range) (X : Family) where
 
 -- ---- one step of the walk
 module _ (s : Stored) (sound : IsSoundStore s) (chosen : List Range) (d : AreOfDifferentUnits chosen) (taken : List ℕ)
-    (n v lo hi : ℕ) (n_in : IsNumber s n)
-    (node_is : IsNode s.families n v lo hi) (fit : IsFit chosen taken (family s n)) where
+    (n v lo hi : ℕ) (n_in : IsFamilyNumber s n)
+    (node_is : IsNode s.families n v lo hi) (fit : PassesTaken chosen taken (family s n)) where
   or_cases : (a b : Bool) → (a || (b || false)) ≡ true → (a ≡ true) ⊎ (b ≡ true)
   or_cases true b h = inl refl
   or_cases false true h = inr refl
@@ -313,8 +313,8 @@ module _ (s : Stored) (sound : IsSoundStore s) (chosen : List Range) (d : AreOfD
 
   -- where v is of no unit
   module _ (free : is_covered chosen v ≡ false) where
-    pub fit_upper : (more : List ℕ) → more ≡ taken ++ v ∷ [] → IsFit chosen more (family s hi)
-    fit_upper more e = subst (λ z. IsFit chosen z (family s hi)) (sym e) (record {
+    pub fit_upper : (more : List ℕ) → more ≡ taken ++ v ∷ [] → PassesTaken chosen more (family s hi)
+    fit_upper more e = subst (λ z. PassesTaken chosen z (family s hi)) (sym e) (record {
       alike = λ r i. alike_upper r v (family s lo) (family s hi) node_is.lo_above node_is.hi_above
           (uncovered_in chosen r v i free) (subst (GoesOnAlike r) node_is.is (fit.alike r i));
       passed = λ r i h. elim (touched_cases r h) [
@@ -323,7 +323,7 @@ module _ (s : Stored) (sound : IsSoundStore s) (chosen : List Range) (d : AreOfD
       ];
     })
 
-    pub fit_lower : IsFit chosen taken (family s lo)
+    pub fit_lower : PassesTaken chosen taken (family s lo)
     fit_lower = record {
       alike = λ r i. alike_lower r v (family s lo) (family s hi) node_is.lo_above node_is.hi_above
           (uncovered_in chosen r v i free) (subst (GoesOnAlike r) node_is.is (fit.alike r i));
@@ -335,11 +335,11 @@ module _ (s : Stored) (sound : IsSoundStore s) (chosen : List Range) (d : AreOfD
         → AddsForms chosen taken (family s n) old new
     adds_uncovered more e old mid new a b =
         b ∙ ap (λ z. z ++ once (without_v chosen d taken v (family s lo)))
-        (a ∙ ap (λ z. old ++ once (map (short_form chosen) (behind z (family s hi)))) e)
+        (a ∙ ap (λ z. old ++ once (map (short_form chosen) (behind_events z (family s hi)))) e)
         ∙ append_assoc old (once (with_v chosen d taken v (family s hi)))
         (once (without_v chosen d taken v (family s lo)))
         ∙ ap (λ z. old ++ z) (sym (once_uncovered chosen d taken v free (family s lo) (family s hi) node_is.lo_above)
-        ∙ ap (λ z. once (map (short_form chosen) (behind taken z))) (sym node_is.is))
+        ∙ ap (λ z. once (map (short_form chosen) (behind_events taken z))) (sym node_is.is))
 
   -- where v is of a unit
   module _ (r : Range) (r_in : IsOneOf chosen r) (v_in : lies r v ≡ true) (x y : ℕ) (e : IsExit s r.to hi x)
@@ -368,7 +368,7 @@ module _ (s : Stored) (sound : IsSoundStore s) (chosen : List Range) (d : AreOfD
     same_unit : (c : Range) → IsOneOf chosen c → lies c v ≡ true → c ≡ r
     same_unit c i h = d.one c r i r_in v h v_in
 
-    alike_at : (z : ℕ) → IsReached s r.to n z → EndsBelow s r.to z → (c : Range) → IsOneOf chosen c
+    alike_at : (z : ℕ) → IsNumberReached s r.to n z → EndsBelow s r.to z → (c : Range) → IsOneOf chosen c
         → GoesOnAlike c (family s z)
     alike_at z reached ends c i = step (lies c v) refl
       where
@@ -377,8 +377,8 @@ module _ (s : Stored) (sound : IsSoundStore s) (chosen : List Range) (d : AreOfD
             (alike_late r (family s z) (reached_at_least s r.to r.from reached low) ends.at_least)
         step false h = reached_alike s r.to c r.from (other_free c i h) reached low (fit.alike c i)
 
-    pub fit_exit : (more : List ℕ) → more ≡ taken ++ v ∷ [] → IsFit chosen more (family s x)
-    fit_exit more m = subst (λ z. IsFit chosen z (family s x)) (sym m) (record {
+    pub fit_exit : (more : List ℕ) → more ≡ taken ++ v ∷ [] → PassesTaken chosen more (family s x)
+    fit_exit more m = subst (λ z. PassesTaken chosen z (family s x)) (sym m) (record {
       alike = alike_at x exit.exit.reached exit.exit.ends;
       passed = λ c i h. elim (touched_cases c h) [
         | inl t ↦ reached_at_least s r.to c.to exit.exit.reached (fit.passed c i t)
@@ -387,7 +387,7 @@ module _ (s : Stored) (sound : IsSoundStore s) (chosen : List Range) (d : AreOfD
       ];
     })
 
-    pub fit_skip : IsFit chosen taken (family s y)
+    pub fit_skip : PassesTaken chosen taken (family s y)
     fit_skip = record {
       alike = alike_at y skip.reached skip.ends;
       passed = λ c i h. reached_at_least s r.to c.to skip.reached (fit.passed c i h);
@@ -418,12 +418,12 @@ module _ (s : Stored) (sound : IsSoundStore s) (chosen : List Range) (d : AreOfD
             (λ w. x_some (sym exit.exit.is ∙ ap (section r.to exit.exit.taken) (sym whole) ∙ w))
             ∙ ap (section r.to exit.exit.taken) whole ∙ exit.exit.is)
 
-    once_both : once (map (short_form chosen) (behind taken (family s n)))
+    once_both : once (map (short_form chosen) (behind_events taken (family s n)))
         ≡ once (with_v chosen d taken v (family s x)) ++ once (without_v chosen d taken v (family s y))
     once_both =
         let p = expand_some s sound r (family s x) (suc n) n (omega arith) n_in low follows in
-        ap (λ z. once (map (short_form chosen) (behind taken z)))
-        (p.is ∙ ap (λ z. flat_map (λ a. behind a (family s x)) p.heads ++ z) skip.is)
+        ap (λ z. once (map (short_form chosen) (behind_events taken z)))
+        (p.is ∙ ap (λ z. flat_map (λ a. behind_events a (family s x)) p.heads ++ z) skip.is)
         ∙ once_covered chosen d taken v r r_in v_in untouched (family s x) (family s y) p.heads
         (p.some (event_not_end s r.to n v lo hi has)) p.in_range skip.ends.at_least
 
@@ -432,7 +432,7 @@ module _ (s : Stored) (sound : IsSoundStore s) (chosen : List Range) (d : AreOfD
         → AddsForms chosen taken (family s n) old new
     adds_covered more m old mid new a b =
         b ∙ ap (λ z. z ++ once (without_v chosen d taken v (family s y)))
-        (a ∙ ap (λ z. old ++ once (map (short_form chosen) (behind z (family s x)))) m)
+        (a ∙ ap (λ z. old ++ once (map (short_form chosen) (behind_events z (family s x)))) m)
         ∙ append_assoc old (once (with_v chosen d taken v (family s x)))
         (once (without_v chosen d taken v (family s y)))
         ∙ ap (λ z. old ++ z) (sym once_both)

@@ -18,7 +18,7 @@ abbrev pub IsChoice : List UnitSets → ShortForm → List (List ℕ) → Type 0
 IsChoice modules form choice = Along (IsSetOf modules) form.units choice
 
 -- the events of the set are those of the chosen sets and those of the form
-pub record IsMadeOf (form : ShortForm) (choice : List (List ℕ)) (set : List ℕ) : Type 0 where
+pub record IsChoiceOf (form : ShortForm) (choice : List (List ℕ)) (set : List ℕ) : Type 0 where
   pub ascends : Ascends set
   pub each : (e : ℕ) → holds e set ≡ (list_any (holds e) choice || holds e form.events)
 
@@ -28,12 +28,12 @@ pub record ComesFrom (modules : List UnitSets) (forms : List ShortForm) (set : L
   pub choice : List (List ℕ)
   pub listed : IsOneOf forms form
   pub is_choice : IsChoice modules form choice
-  pub is_made : IsMadeOf form choice set
+  pub is_made : IsChoiceOf form choice set
 
 -- the forms stand for the family: of each choice for one of the forms a set of the family is made, and each set of the
 -- family comes from just one form and one choice
 pub record StandFor (f : Family) (modules : List UnitSets) (forms : List ShortForm) : Type 0 where
   pub made : (form : ShortForm) (choice : List (List ℕ)) → IsOneOf forms form → IsChoice modules form choice
-      → (set : List ℕ) × (has f set ≡ true) × IsMadeOf form choice set
+      → (set : List ℕ) × (has f set ≡ true) × IsChoiceOf form choice set
   pub whole : (set : List ℕ) → has f set ≡ true → ComesFrom modules forms set
   pub one : (set : List ℕ) (a b : ComesFrom modules forms set) → (a.form ≡ b.form) × (a.choice ≡ b.choice)

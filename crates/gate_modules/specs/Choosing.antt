@@ -8,7 +8,7 @@ use Rattle.gate_modules.specs.Shortened.{UnitSets, IsModuleOf}
 use Rattle.gate_modules.specs.declared.ranges.Range.{Range}
 
 -- one of these covers the range
-pub record IsWithin (chosen : List Range) (r : Range) : Type 0 where
+pub record IsRangeCovered (chosen : List Range) (r : Range) : Type 0 where
   pub outer : Range
   pub is_chosen : IsOneOf chosen outer
   pub covers : Covers outer r
@@ -21,7 +21,7 @@ pub record IsWithinNone (chosen : List Range) (r : Range) : Type 0 where
 -- with its parts
 pub data Considers (f : Family) (r : Range) (old : List Range) (old_modules : List UnitSets) : List Range
     → List UnitSets → Type 0 where
-  within : IsWithin old r → Considers f r old old_modules old old_modules
+  within : IsRangeCovered old r → Considers f r old old_modules old old_modules
   no_module : (IsModule f r → ⊥) → Considers f r old old_modules old old_modules
   is_new : {new : List Range} {modules : List UnitSets} (m : UnitSets) → IsWithinNone old r → IsModuleWith f r m.sets
       → m.unit ≡ r.unit.n → new ≡ old ++ r ∷ [] → modules ≡ old_modules ++ m ∷ []

@@ -3,7 +3,7 @@ use Rattle.std.specs.Prelude.{◌≡◌, ◌≢◌, ◌⊎◌, ◌<◌, ◌≤�
 use Rattle.ar_base.specs.Lists.{Stands, IsOneOf}
 use Rattle.zdd_families.specs.Families.{Family}
 use Rattle.zdd_families.specs.Sections.{section}
-use Rattle.zdd_nodes.specs.Nodes.{Stored, family, IsNumber}
+use Rattle.zdd_nodes.specs.Nodes.{Stored, family, IsFamilyNumber}
 use Rattle.gate_modules.specs.Ends.{IsSectionAt}
 use Rattle.event_bounds.specs.Bounds.{EndsBelow, HasBelow}
 use Rattle.gate_modules.specs.Walked.{AreEnds, AgreesSome, EntryAgrees}
@@ -19,32 +19,32 @@ pub record AreSeen (s : Stored) (from : ℕ) (seen : List Bool) (entries : List 
   pub each : (k : ℕ) → Stands seen k true → IsCovered s from entries (family s k)
 
 -- entries were added, all of them numbers of the store and sections of the family
-pub record Adds (s : Stored) (from n : ℕ) (old new : List ℕ) : Type 0 where
+pub record AddsSections (s : Stored) (from n : ℕ) (old new : List ℕ) : Type 0 where
   pub added : List ℕ
   pub is : new ≡ old ++ added
-  pub inside : (e : ℕ) → IsOneOf added e → IsNumber s e
+  pub inside : (e : ℕ) → IsOneOf added e → IsFamilyNumber s e
   pub sections : (e : ℕ) → IsOneOf added e → IsSectionAt from (family s n) (family s e)
 
 -- these are the sections of the family at the number, but for the empty one
-pub record AreEntries (s : Stored) (from n : ℕ) (entries : List ℕ) : Type 0 where
+pub record AreSectionsAt (s : Stored) (from n : ℕ) (entries : List ℕ) : Type 0 where
   pub covered : IsCovered s from entries (family s n)
-  pub inside : (e : ℕ) → IsOneOf entries e → IsNumber s e
+  pub inside : (e : ℕ) → IsOneOf entries e → IsFamilyNumber s e
   pub sections : (e : ℕ) → IsOneOf entries e → IsSectionAt from (family s n) (family s e)
 
 -- x is reached from n through numbers with events below the bound
-pub data IsReached (s : Stored) (to : ℕ) : ℕ → ℕ → Type 0 where
-  here : (n : ℕ) → IsReached s to n n
-  up : {n v lo hi x : ℕ} → HasBelow s to n v lo hi → IsReached s to hi x → IsReached s to n x
-  down : {n v lo hi x : ℕ} → HasBelow s to n v lo hi → IsReached s to lo x → IsReached s to n x
+pub data IsNumberReached (s : Stored) (to : ℕ) : ℕ → ℕ → Type 0 where
+  here : (n : ℕ) → IsNumberReached s to n n
+  up : {n v lo hi x : ℕ} → HasBelow s to n v lo hi → IsNumberReached s to hi x → IsNumberReached s to n x
+  down : {n v lo hi x : ℕ} → HasBelow s to n v lo hi → IsNumberReached s to lo x → IsNumberReached s to n x
 
 -- x follows some events of the number below the bound
 pub record IsExit (s : Stored) (to n x : ℕ) : Type 0 where
-  pub inside : IsNumber s x
+  pub inside : IsFamilyNumber s x
   pub at_most : x ≤ n
   pub some : 0 < x
   pub taken : List ℕ
   pub is : section to taken (family s n) ≡ family s x
-  pub reached : IsReached s to n x
+  pub reached : IsNumberReached s to n x
   pub ends : EndsBelow s to x
 
 -- the same, where there are such events

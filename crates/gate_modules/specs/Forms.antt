@@ -4,12 +4,12 @@ use Rattle.std.specs.List.{AllByRecursion}
 use Rattle.ar_base.specs.Lists.{IsOneOf}
 use Rattle.zdd_families.specs.Families.{Family}
 use Rattle.zdd_families.specs.Sections.{section}
-use Rattle.zdd_families.specs.Behind.{behind}
-use Rattle.zdd_nodes.specs.Nodes.{Stored, family, IsNumber}
+use Rattle.zdd_families.specs.Behind.{behind_events}
+use Rattle.zdd_nodes.specs.Nodes.{Stored, family, IsFamilyNumber}
 use Rattle.gate_modules.specs.Modules.{lies}
 use Rattle.gate_modules.specs.Shortened.{ShortForm, touches, short_form, once}
 use Rattle.event_bounds.specs.Bounds.{AtLeast, EndsBelow}
-use Rattle.gate_modules.specs.Entries.{IsReached}
+use Rattle.gate_modules.specs.Entries.{IsNumberReached}
 use Rattle.gate_modules.specs.declared.ranges.Range.{Range}
 
 -- no event is of two of these ranges, and no two are of one unit
@@ -24,23 +24,23 @@ pub record GoesOnAlike (r : Range) (f : Family) : Type 0 where
       → section r.to a (section r.from p f) ≡ section r.to b (section r.from p f)
 
 -- the family goes on alike for each unit, and it has passed those of which events were taken
-pub record IsFit (chosen : List Range) (taken : List ℕ) (f : Family) : Type 0 where
+pub record PassesTaken (chosen : List Range) (taken : List ℕ) (f : Family) : Type 0 where
   pub alike : (r : Range) → IsOneOf chosen r → GoesOnAlike r f
   pub passed : (r : Range) → IsOneOf chosen r → touches taken r ≡ true → AllByRecursion (AtLeast r.to) f
 
 -- the short forms of the sets, each behind the events that were taken before, are added, each once
 abbrev pub AddsForms : List Range → List ℕ → Family → List ShortForm → List ShortForm → Type 0
-AddsForms chosen taken f old new = new ≡ old ++ once (map (short_form chosen) (behind taken f))
+AddsForms chosen taken f old new = new ≡ old ++ once (map (short_form chosen) (behind_events taken f))
 
 -- x follows no event of the number below the bound
 pub record IsSkip (s : Stored) (to n x : ℕ) : Type 0 where
-  pub inside : IsNumber s x
+  pub inside : IsFamilyNumber s x
   pub at_most : x ≤ n
   pub is : section to [] (family s n) ≡ family s x
-  pub reached : IsReached s to n x
+  pub reached : IsNumberReached s to n x
   pub ends : EndsBelow s to x
 
 -- the event is of this one of the ranges
-pub record IsHeld (chosen : List Range) (e : ℕ) (r : Range) : Type 0 where
+pub record IsEventOfRange (chosen : List Range) (e : ℕ) (r : Range) : Type 0 where
   pub is_chosen : IsOneOf chosen r
   pub holds : lies r e ≡ true

@@ -8,8 +8,8 @@ use Rattle.gate_modules.specs.Modules.{lies, Covers}
 -- Ranges of units
 
 -- no event is of both ranges
-abbrev pub AreApart : Range → Range → Type 0
-AreApart a b = (e : ℕ) → lies a e ≡ true → lies b e ≡ true → ⊥
+abbrev pub ShareNoEvent : Range → Range → Type 0
+ShareNoEvent a b = (e : ℕ) → lies a e ≡ true → lies b e ≡ true → ⊥
 
 -- the range has an event
 abbrev pub HasEvents : Range → Type 0
@@ -20,4 +20,4 @@ HasEvents r = r.from < r.to
 pub record AreRanges (ranges : List Range) : Type 0 where
   pub ascend : (j k : ℕ) (a b : Range) → j < k → Stands ranges j a → Stands ranges k b → a.unit.n < b.unit.n
   pub nested : (j k : ℕ) (a b : Range) → j < k → Stands ranges j a → Stands ranges k b → HasEvents a → HasEvents b
-      → AreApart a b ⊎ Covers a b
+      → ShareNoEvent a b ⊎ Covers a b

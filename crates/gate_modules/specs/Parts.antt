@@ -3,7 +3,7 @@ use Rattle.std.specs.Prelude.{◌≡◌, ◌≢◌, ℕ, true, List, [], ◌++�
 use Rattle.zdd_families.specs.Families.{Family, has}
 use Rattle.zdd_families.specs.FamiliesInside.{IsFamily}
 use Rattle.zdd_families.specs.Sections.{section}
-use Rattle.zdd_families.specs.Behind.{behind}
+use Rattle.zdd_families.specs.Behind.{behind_events}
 use Rattle.zdd_nodes.specs.Nodes.{Stored, family}
 
 -- these are the sets of events below the bound that sets of the family begin with
@@ -23,7 +23,7 @@ pub record AreSomeHeads (b : ℕ) (f heads : Family) : Type 0 where
 pub record AddsHeads (s : Stored) (b n : ℕ) (taken : List ℕ) (old new : Family) : Type 0 where
   pub heads : Family
   pub are_heads : AreHeads b (family s n) heads
-  pub is : new ≡ old ++ behind taken heads
+  pub is : new ≡ old ++ behind_events taken heads
 
 -- the same without the empty set
 pub record AddsSomeHeads (s : Stored) (b n : ℕ) (old new : Family) : Type 0 where

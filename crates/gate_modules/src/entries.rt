@@ -2,10 +2,10 @@
 
 ghost use Rattle.std.specs.Prelude.{◌≡◌, ◌<◌, ℕ, IfOk, OnOk, length, true, false};
 ghost use Rattle.ar_base.specs.Lists.{Stands};
-ghost use Rattle.zdd_nodes.specs.Nodes.{NodeId, family, IsNumber};
+ghost use Rattle.zdd_nodes.specs.Nodes.{NodeId, family, IsFamilyNumber};
 ghost use Rattle.event_bounds.specs.Bounds.{EndsBelow, node_numbers};
 ghost use Rattle.gate_modules.specs.Walked.{AreTwins};
-ghost use Rattle.gate_modules.specs.Entries.{AreSeen, IsCovered, Adds, AreEntries};
+ghost use Rattle.gate_modules.specs.Entries.{AreSeen, IsCovered, AddsSections, AreSectionsAt};
 ghost use Rattle.gate_modules.specs.Entries.{IsExit, IsEntryExit, EntriesAnswer};
 
 use crate::twins::{Question, Twin, agree_some};
@@ -28,9 +28,9 @@ pub(crate) fn entries_of(
     root: NodeId,
     from: u32,
 ) -> Result<Vec<NodeId>, Memory>
-    requires { IsNumber store.now root.n }
+    requires { IsFamilyNumber store.now root.n }
     ensures { IfOk result (λ entries.
-        AreEntries store.now from root.n (node_numbers entries.items)) }
+        AreSectionsAt store.now from root.n (node_numbers entries.items)) }
 {
     let mut seen = vec![in alloc; false; root.n as usize + 1]?;
     let mut entries = Vec::new(alloc);
@@ -46,14 +46,14 @@ fn collect(
     seen: &mut [bool],
     entries: &mut Vec<NodeId>,
 ) -> Result<(), Memory>
-    requires in_store { IsNumber store.now number.n }
+    requires in_store { IsFamilyNumber store.now number.n }
     requires room { number.n < length seen.old }
     requires known { AreSeen store.now from seen.old (node_numbers entries.old.items) }
     ensures known { OnOk result (AreSeen store.now from seen.new (node_numbers entries.new.items)) }
     ensures covered { OnOk result
         (IsCovered store.now from (node_numbers entries.new.items) (family store.now number.n)) }
     ensures added { OnOk result
-        (Adds store.now from number.n (node_numbers entries.old.items)
+        (AddsSections store.now from number.n (node_numbers entries.old.items)
         (node_numbers entries.new.items)) }
     ensures long { OnOk result (length seen.new ≡ length seen.old) }
 {
@@ -77,7 +77,7 @@ fn collect(
 
 /// What follows the first events of a number below the bound.
 pub(crate) fn exit(store: &Store, to: u32, number: NodeId) -> NodeId
-    requires in_store { IsNumber store.now number.n }
+    requires in_store { IsFamilyNumber store.now number.n }
     requires some { 0 < number.n }
     ensures { IsExit store.now to number.n result.n }
 {
@@ -89,7 +89,7 @@ pub(crate) fn exit(store: &Store, to: u32, number: NodeId) -> NodeId
 
 /// What follows the first events of an entry below the bound, of which it has some.
 pub(crate) fn entry_exit(store: &Store, to: u32, entry: NodeId) -> NodeId
-    requires in_store { IsNumber store.now entry.n }
+    requires in_store { IsFamilyNumber store.now entry.n }
     requires some { EndsBelow store.now to entry.n → ⊥ }
     ensures { IsEntryExit store.now to entry.n result.n }
 {
@@ -108,9 +108,9 @@ pub(crate) fn entries_agree(
     reference: Reference,
     entries: &[NodeId],
 ) -> bool
-    requires in_store { (k : ℕ) (e : NodeId) → Stands entries.now k e → IsNumber store.now e.n }
-    requires node_in { IsNumber store.now reference.node.n }
-    requires end_in { IsNumber store.now reference.end.n }
+    requires in_store { (k : ℕ) (e : NodeId) → Stands entries.now k e → IsFamilyNumber store.now e.n }
+    requires node_in { IsFamilyNumber store.now reference.node.n }
+    requires end_in { IsFamilyNumber store.now reference.end.n }
     requires end_some { 0 < reference.end.n }
     requires room { (k : ℕ) (e : NodeId) → Stands entries.now k e → e.n < length twins.old }
     requires known { AreTwins store.now twins.old }

@@ -2,13 +2,13 @@
 
 ghost use Rattle.std.specs.Prelude.{◌≡◌, false, not, IfOk, OnOk, MatchOption, map};
 ghost use Rattle.std.specs.List.{filter};
-ghost use Rattle.zdd_nodes.specs.Nodes.{family, IsNumber};
+ghost use Rattle.zdd_nodes.specs.Nodes.{family, IsFamilyNumber};
 ghost use Rattle.gate_modules.specs.Modules.{lies as lies_in};
 ghost use Rattle.gate_modules.specs.Shortened.{touches as has_touched, is_covered as covered_by};
 ghost use Rattle.gate_modules.specs.ShortenedInside.{event_numbers};
 ghost use Rattle.gate_modules.specs.Shortened.{units_where};
 ghost use Rattle.gate_modules.specs.ShortenedInside.{short_form_of as form_made};
-ghost use Rattle.gate_modules.specs.Forms.{AreOfDifferentUnits, IsFit, AddsForms, IsSkip, IsHeld};
+ghost use Rattle.gate_modules.specs.Forms.{AreOfDifferentUnits, PassesTaken, AddsForms, IsSkip, IsEventOfRange};
 
 use crate::entries::exit;
 use crate::parts::longer;
@@ -28,9 +28,9 @@ pub(crate) fn add_forms(
     taken: &[EventId],
     forms: &mut Vec<ShortSet>,
 ) -> Result<(), Memory>
-    requires in_store { IsNumber store.now number.n }
+    requires in_store { IsFamilyNumber store.now number.n }
     requires units { AreOfDifferentUnits chosen.now }
-    requires fit { IsFit chosen.now (event_numbers taken.now) (family store.now number.n) }
+    requires fit { PassesTaken chosen.now (event_numbers taken.now) (family store.now number.n) }
     ensures { OnOk result (AddsForms chosen.now (event_numbers taken.now) (family store.now number.n)
         (map form_made forms.old.items) (map form_made forms.new.items)) }
 {
@@ -62,7 +62,7 @@ pub(crate) fn add_forms(
 
 // What follows no event of the number below the bound.
 fn skip(store: &Store, to: u32, number: NodeId) -> NodeId
-    requires { IsNumber store.now number.n }
+    requires { IsFamilyNumber store.now number.n }
     ensures { IsSkip store.now to number.n result.n }
 {
     match below(store, to, number) {
@@ -116,7 +116,7 @@ fn is_free(chosen: &[Range], event: EventId) -> bool
 // The range of which the event is.
 fn holder(chosen: &[Range], event: EventId) -> Option<Range>
     ensures { MatchOption result (covered_by chosen.now event.n ≡ false)
-        (λ r. IsHeld chosen.now event.n r) }
+        (λ r. IsEventOfRange chosen.now event.n r) }
 {
     for range in chosen {
         if lies(*range, event) {

@@ -1,7 +1,7 @@
 //! Whether a unit is a module.
 
 ghost use Rattle.std.specs.Prelude.{◌≡◌, ◌+◌, IfOk, MatchOption, length, map};
-ghost use Rattle.zdd_nodes.specs.Nodes.{family, IsNumber, IsSoundStore};
+ghost use Rattle.zdd_nodes.specs.Nodes.{family, IsFamilyNumber, IsSoundStore};
 ghost use Rattle.gate_modules.specs.Deciding.{IsModuleWith};
 ghost use Rattle.gate_modules.specs.Modules.{IsModule};
 ghost use Rattle.gate_modules.specs.ShortenedInside.{set_of};
@@ -26,7 +26,7 @@ pub(crate) fn module_sets(
     twins: &mut [Twin],
 ) -> Result<Option<Vec<EventSet>>, Memory>
     requires sound { IsSoundStore store.now }
-    requires root { IsNumber store.now root.n }
+    requires root { IsFamilyNumber store.now root.n }
     requires room { length twins.old ≡ length store.now.families + 2 }
     requires known { AreTwins store.now twins.old }
     ensures sets { IfOk result (λ o. MatchOption o (IsModule (family store.now root.n) range → ⊥)

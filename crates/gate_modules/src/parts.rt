@@ -1,7 +1,7 @@
 //! The parts of a unit, by one entry of its range.
 
 ghost use Rattle.std.specs.Prelude.{◌≡◌, ◌++◌, ◌∷◌, [], IfOk, OnOk, map};
-ghost use Rattle.zdd_nodes.specs.Nodes.{IsNumber};
+ghost use Rattle.zdd_nodes.specs.Nodes.{IsFamilyNumber};
 ghost use Rattle.gate_modules.specs.ShortenedInside.{event_numbers, set_of};
 ghost use Rattle.gate_modules.specs.Parts.{AddsHeads, AddsSomeHeads};
 
@@ -20,7 +20,7 @@ pub(crate) fn add_some_parts(
     number: NodeId,
     sets: &mut Vec<EventSet>,
 ) -> Result<(), Memory>
-    requires { IsNumber store.now number.n }
+    requires { IsFamilyNumber store.now number.n }
     ensures { OnOk result
         (AddsSomeHeads store.now to number.n (map set_of sets.old.items)
         (map set_of sets.new.items)) }
@@ -45,7 +45,7 @@ fn add_parts(
     taken: &[EventId],
     sets: &mut Vec<EventSet>,
 ) -> Result<(), Memory>
-    requires { IsNumber store.now number.n }
+    requires { IsFamilyNumber store.now number.n }
     ensures { OnOk result
         (AddsHeads store.now to number.n (event_numbers taken.now) (map set_of sets.old.items)
         (map set_of sets.new.items)) }

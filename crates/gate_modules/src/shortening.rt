@@ -1,9 +1,9 @@
 //! A family in short.
 
 ghost use Rattle.std.specs.Prelude.{◌≡◌, ◌+◌, IfOk, OnOk, length, map, true, false, []};
-ghost use Rattle.zdd_nodes.specs.Nodes.{family as family_of, IsNumber, IsSoundStore};
+ghost use Rattle.zdd_nodes.specs.Nodes.{family as family_of, IsFamilyNumber, IsSoundStore};
 ghost use Rattle.gate_modules.specs.Choices.{StandFor};
-ghost use Rattle.gate_modules.specs.Choosing.{IsWithin, IsWithinNone, AreChosenSoFar};
+ghost use Rattle.gate_modules.specs.Choosing.{IsRangeCovered, IsWithinNone, AreChosenSoFar};
 ghost use Rattle.gate_modules.specs.Modules.{Covers};
 ghost use Rattle.gate_modules.specs.ModulesInside.{AreRanges};
 ghost use Rattle.gate_modules.specs.ShortenedInside.{Shortens, short_form_of, module_of};
@@ -23,7 +23,7 @@ use zdd_nodes::{NodeId, Store};
 /// of each choice of one set of the module for each unit of a form, with the form's events, a set of the family is made, and
 /// each of its sets comes from just one form and one choice. It makes no node of a diagram.
 pub fn shorten(alloc: Global, family: &Family, ranges: &[Range]) -> Result<Short, Memory>
-    requires root { IsNumber family.now.store family.now.root.n }
+    requires root { IsFamilyNumber family.now.store family.now.root.n }
     requires ranges { AreRanges ranges.now }
     ensures short { IfOk result (λ s.
         Shortens (family_of family.now.store family.now.root.n) ranges.now s) }
@@ -68,7 +68,7 @@ fn choose(
     modules: &mut Vec<Module>,
 ) -> Result<(), Memory>
     requires sound { IsSoundStore store.now }
-    requires root { IsNumber store.now root.n }
+    requires root { IsFamilyNumber store.now root.n }
     requires ranges { AreRanges ranges.now }
     requires room { length twins.old ≡ length store.now.families + 2 }
     requires known { AreTwins store.now twins.old }
@@ -95,7 +95,7 @@ fn choose(
 
 // Whether the range lies within one of these.
 fn is_within(chosen: &[Range], range: Range) -> bool
-    ensures yes { result ≡ true → IsWithin chosen.now range }
+    ensures yes { result ≡ true → IsRangeCovered chosen.now range }
     ensures no { result ≡ false → IsWithinNone chosen.now range }
 {
     for outer in chosen {

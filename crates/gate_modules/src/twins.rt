@@ -1,8 +1,8 @@
 //! Whether two families have the same sets of events below a bound, each with one family that follows.
 
 ghost use Rattle.std.specs.Prelude.{◌≡◌, ◌<◌, length, true};
-ghost use Rattle.zdd_nodes.specs.Nodes.{Stored, IsNumber};
-ghost use Rattle.gate_modules.specs.Walked.{AreTwins, IsAsked, AreEnds, Answers, Agrees};
+ghost use Rattle.zdd_nodes.specs.Nodes.{Stored, IsFamilyNumber};
+ghost use Rattle.gate_modules.specs.Walked.{AreTwins, IsAskedPair, AreEnds, SaysWhether, HaveTwinFamilies};
 ghost use Rattle.gate_modules.specs.Walked.{AgreesSome};
 
 use event_bounds::{below, both_end};
@@ -25,29 +25,6 @@ pub(crate) struct Question {
     pub(crate) node_end: NodeId,
 }
 
-// Whether the table tells that the families agree as asked.
-fn is_known(twins: &[Twin], asked: Question, first: NodeId, second: NodeId) -> bool
-    requires room { first.n < length twins.now }
-    ensures { (s : Stored) → AreTwins s twins.now → result ≡ true
-        → Agrees s asked first.n second.n }
-{
-    let known = twins[first.n as usize];
-    known.node.n > 0 && is_asked(known, asked, second)
-}
-
-// Whether the entry is about this number and what is asked.
-fn is_asked(known: Twin, asked: Question, second: NodeId) -> bool
-    ensures { result ≡ true → IsAsked known asked second.n }
-{
-    if known.node.n != second.n || known.to != asked.to {
-        return false;
-    }
-    if known.end.n != asked.end.n || known.node_end.n != asked.node_end.n {
-        return false;
-    }
-    true
-}
-
 /// Whether both families have the same sets of events below the bound, where after each of these the first goes on as
 /// asked, and the second too. Takes no memory.
 pub(crate) fn agree(
@@ -57,12 +34,12 @@ pub(crate) fn agree(
     first: NodeId,
     second: NodeId,
 ) -> bool
-    requires first_in { IsNumber store.now first.n }
-    requires second_in { IsNumber store.now second.n }
+    requires first_in { IsFamilyNumber store.now first.n }
+    requires second_in { IsFamilyNumber store.now second.n }
     requires room { first.n < length twins.old }
     requires ends { AreEnds store.now asked }
     requires known { AreTwins store.now twins.old }
-    ensures is { Answers result (Agrees store.now asked first.n second.n) }
+    ensures is { SaysWhether result (HaveTwinFamilies store.now asked first.n second.n) }
     ensures known { AreTwins store.now twins.new }
     ensures long { length twins.new ≡ length twins.old }
 {
@@ -97,6 +74,29 @@ pub(crate) fn agree(
     }
 }
 
+// Whether the table tells that the families agree as asked.
+fn is_known(twins: &[Twin], asked: Question, first: NodeId, second: NodeId) -> bool
+    requires room { first.n < length twins.now }
+    ensures { (s : Stored) → AreTwins s twins.now → result ≡ true
+        → HaveTwinFamilies s asked first.n second.n }
+{
+    let known = twins[first.n as usize];
+    known.node.n > 0 && is_asked(known, asked, second)
+}
+
+// Whether the entry is about this number and what is asked.
+fn is_asked(known: Twin, asked: Question, second: NodeId) -> bool
+    ensures { result ≡ true → IsAskedPair known asked second.n }
+{
+    if known.node.n != second.n || known.to != asked.to {
+        return false;
+    }
+    if known.end.n != asked.end.n || known.node_end.n != asked.node_end.n {
+        return false;
+    }
+    true
+}
+
 /// The same but for the empty set: whether both families have the same nonempty sets of events below the bound.
 pub(crate) fn agree_some(
     store: &Store,
@@ -105,12 +105,12 @@ pub(crate) fn agree_some(
     first: NodeId,
     second: NodeId,
 ) -> bool
-    requires first_in { IsNumber store.now first.n }
-    requires second_in { IsNumber store.now second.n }
+    requires first_in { IsFamilyNumber store.now first.n }
+    requires second_in { IsFamilyNumber store.now second.n }
     requires room { first.n < length twins.old }
     requires ends { AreEnds store.now asked }
     requires known { AreTwins store.now twins.old }
-    ensures is { Answers result (AgreesSome store.now asked first.n second.n) }
+    ensures is { SaysWhether result (AgreesSome store.now asked first.n second.n) }
     ensures known { AreTwins store.now twins.new }
     ensures long { length twins.new ≡ length twins.old }
 {

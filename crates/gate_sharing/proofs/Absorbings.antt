@@ -9,7 +9,7 @@ use Rattle.ar_base.proofs.Items.{one_last, last_cases}
 use Rattle.eq_core.specs.Gates.{Operand, Always, Never, EventIs, GateIs, Gate, opposite}
 use Rattle.eq_core.specs.Ordered.{AreBelow}
 use Rattle.eq_core.specs.Values.{signed, operand_at, joint_at, values_at, value_at}
-use Rattle.eq_core.specs.ValuesInside.{IsBelow, Grows}
+use Rattle.eq_core.specs.ValuesInside.{IsBelow, GainsGates}
 use Rattle.eq_core.specs.Views.{operand_of}
 use Rattle.eq_core.specs.declared.joints.Operand as code
 use Rattle.eq_core.specs.declared.joints.Operand.TheVariants as c
@@ -17,9 +17,9 @@ use Rattle.eq_core.proofs.Telling.{turned, gate_value, below_more, none_below, g
 use Rattle.gate_sharing.specs.declared.unshared.Unshared.{Unshared}
 use Rattle.gate_sharing.specs.contracts.literals.LiteralPartialEq.TheImpl as literal
 use Rattle.gate_sharing.specs.declared.literals.Literal.{Literal}
-use Rattle.gate_sharing.specs.Absorbing.{parts_of, IsBeside, AreEnoughBeside, AreNeverBeside, AddsBeside}
-use Rattle.gate_sharing.specs.Literals.{literal_of, operands_of}
-use Rattle.gate_sharing.specs.Sharing.{IsAllOf, Adds}
+use Rattle.gate_sharing.specs.Absorbing.{needed_parts, IsBeside, AreEnoughBeside, AreNeverBeside, AddsBeside}
+use Rattle.gate_sharing.specs.Literals.{literal_of, literal_operands}
+use Rattle.gate_sharing.specs.Sharing.{IsAllOf, AddsGates}
 use Rattle.gate_sharing.specs.Images.{with_sign}
 use Rattle.gate_sharing.proofs.Alls.{all_each, joint_append, one_mapped, one_unmapped}
 use Rattle.gate_sharing.proofs.Sharings.{one_literal, all_kept, all_below_kept}
@@ -33,10 +33,10 @@ one_any (x ∷ xs) l h = ⊎_elim
     (λ k. one_rest x xs l (one_any xs l k))
     (or_cases (literal.eq-value.it x l) (list_any (λ (y : Literal). literal.eq-value.it y l) xs) h)
 
-pub has_before : (xs ys : List Literal) (l : Literal) → IsOneOf xs l → IsOneOf (operands_of (xs ++ ys)) (literal_of l)
+pub has_before : (xs ys : List Literal) (l : Literal) → IsOneOf xs l → IsOneOf (literal_operands (xs ++ ys)) (literal_of l)
 has_before xs ys l m = one_mapped literal_of (xs ++ ys) l (one_left xs ys l m)
 
-pub has_after : (xs ys : List Literal) (l : Literal) → IsOneOf ys l → IsOneOf (operands_of (xs ++ ys)) (literal_of l)
+pub has_after : (xs ys : List Literal) (l : Literal) → IsOneOf ys l → IsOneOf (literal_operands (xs ++ ys)) (literal_of l)
 has_after xs ys l m = one_mapped literal_of (xs ++ ys) l (one_right xs ys l m)
 
 -- ---- one operand
@@ -144,23 +144,23 @@ module _ (others : List Operand) (both : Bool) (items : List code.Operand) (i : 
       never_beside others (map (with_sign both) (map operand_of items)) (operand_of o) (operand_of r) b (ap operand_of e) item_one
 
   module _ (ls : List Literal)
-      (a : AreEnoughBeside others (map (with_sign both) (map operand_of (take i items))) (operands_of ls)) where
+      (a : AreEnoughBeside others (map (with_sign both) (map operand_of (take i items))) (literal_operands ls)) where
     pub part_passes : r ≡ c.Always
-        → AreEnoughBeside others (map (with_sign both) (map operand_of (take (i + 1) items))) (operands_of ls)
+        → AreEnoughBeside others (map (with_sign both) (map operand_of (take (i + 1) items))) (literal_operands ls)
     part_passes e =
-        subst (λ (z : List Operand). AreEnoughBeside others z (operands_of ls)) (sym further)
-        (beside_passes others (map (with_sign both) (map operand_of (take i items))) (operands_of ls) (operand_of o)
+        subst (λ (z : List Operand). AreEnoughBeside others z (literal_operands ls)) (sym further)
+        (beside_passes others (map (with_sign both) (map operand_of (take i items))) (literal_operands ls) (operand_of o)
         (operand_of r) b (ap operand_of e) a)
 
     pub part_kept : (l : Literal) (new : List Literal) → operand_of r ≡ literal_of l → (literal_of l ≡ Always → ⊥)
         → (literal_of l ≡ Never → ⊥) → new ≡ ls ++ l ∷ []
-        → AreEnoughBeside others (map (with_sign both) (map operand_of (take (i + 1) items))) (operands_of new)
+        → AreEnoughBeside others (map (with_sign both) (map operand_of (take (i + 1) items))) (literal_operands new)
     part_kept l new e not_always not_never m =
-        subst (λ (z : List Operand). AreEnoughBeside others z (operands_of new)) (sym further)
+        subst (λ (z : List Operand). AreEnoughBeside others z (literal_operands new)) (sym further)
         (subst (λ (z : List Operand). AreEnoughBeside others
         (map (with_sign both) (map operand_of (take i items)) ++ operand_of o ∷ []) z)
-        (sym (ap (map literal_of) m ∙ map-append literal_of ls (l ∷ []) ∙ ap (λ (p : Operand). operands_of ls ++ p ∷ []) (sym e)))
-        (beside_keeps others (map (with_sign both) (map operand_of (take i items))) (operands_of ls) (operand_of o)
+        (sym (ap (map literal_of) m ∙ map-append literal_of ls (l ∷ []) ∙ ap (λ (p : Operand). literal_operands ls ++ p ∷ []) (sym e)))
+        (beside_keeps others (map (with_sign both) (map operand_of (take i items))) (literal_operands ls) (operand_of o)
         (operand_of r) b (λ q. not_always (sym e ∙ q)) (λ q. not_never (sym e ∙ q)) a))
 
 -- ---- a literal of a gate
@@ -192,15 +192,15 @@ signed_value set gates false o = turned set (values_at set gates) o
 module _ (gates : List Gate) (n : ℕ) (gate : Gate) (sign whole : Bool) (below : AreBelow n gate.operands)
     (is : (b : Bool) → signed whole b ≡ signed sign (signed gate.both b)) where
   literal_value : (new : List Gate) → Stands new n gate → (set : List ℕ) → value_at new (GateIs n sign) set
-      ≡ signed whole (joint_at true set (values_at set new) (parts_of gate))
+      ≡ signed whole (joint_at true set (values_at set new) (needed_parts gate))
   literal_value new s set =
       with_its_sign set new n sign
       ∙ ap (λ b. signed sign b)
       (gate_value set new n gate s below ∙ parts_value gate.both set (values_at set new) gate.operands)
-      ∙ sym (is (joint_at true set (values_at set new) (parts_of gate)))
+      ∙ sym (is (joint_at true set (values_at set new) (needed_parts gate)))
 
   pub beside_decided : (others : List Operand) (r : code.Operand) → Stands gates n gate
-      → AreNeverBeside others (parts_of gate) → operand_of r ≡ with_sign whole Never
+      → AreNeverBeside others (needed_parts gate) → operand_of r ≡ with_sign whole Never
       → AddsBeside others (GateIs n sign) gates gates (Ok r)
   beside_decided others r s never e = record {
     grows = grows_self gates;
@@ -216,7 +216,7 @@ module _ (gates : List Gate) (n : ℕ) (gate : Gate) (sign whole : Bool) (below 
       constant_below k false = tt
 
   pub beside_left : (others left : List Operand) (new : List Gate) (all r : code.Operand) → Stands gates n gate
-      → Grows gates new → AreEnoughBeside others (parts_of gate) left → IsAllOf new (operand_of all) left
+      → GainsGates gates new → AreEnoughBeside others (needed_parts gate) left → IsAllOf new (operand_of all) left
       → operand_of r ≡ with_sign whole (operand_of all) → AddsBeside others (GateIs n sign) gates new (Ok r)
   beside_left others left new all r s grown enough made e = record {
     grows = grown;
@@ -247,7 +247,7 @@ below_up l n (EventIs e sign) h b = tt
 below_up l n (GateIs g sign) h b = omega (arith, h, b)
 
 -- the parts of a gate in its place name no later gates
-pub parts_below : (n : ℕ) (gate : Gate) → AreBelow n gate.operands → AreBelow n (parts_of gate)
+pub parts_below : (n : ℕ) (gate : Gate) → AreBelow n gate.operands → AreBelow n (needed_parts gate)
 parts_below n gate b = record {
   each = λ o m.
       let r = one_unmapped (with_sign gate.both) gate.operands o m in
@@ -255,12 +255,12 @@ parts_below n gate b = record {
 }
 
 pub left_below : (n k : ℕ) (others : List Operand) (gate : Gate) (left : List Operand) → n ≤ k → AreBelow n gate.operands
-    → AreEnoughBeside others (parts_of gate) left → AreBelow k left
+    → AreEnoughBeside others (needed_parts gate) left → AreBelow k left
 left_below n k others gate left h b e = record {
   each = λ o m. below_up n k o h ((parts_below n gate b).each o (e.within o m));
 }
 
-pub literal_below : (n : ℕ) (ls : List Literal) (i : ℕ) (d : Literal) → i < length ls → AreBelow n (operands_of ls)
+pub literal_below : (n : ℕ) (ls : List Literal) (i : ℕ) (d : Literal) → i < length ls → AreBelow n (literal_operands ls)
     → IsBelow n (literal_of (get_or ls i d))
 literal_below n ls i d h b =
     let x = get_or ls i d in
@@ -272,13 +272,13 @@ rest_all ls k = take_all (length ls - k) (drop k ls) (omega (arith, length-drop 
 
 -- ---- all literals, one by one
 pub record Absorbing (ls : List Literal) (old new : List Gate) (i : ℕ) (kept : List Literal) : Type 0 where
-  pub grows : Grows old new
-  pub below : AreBelow (length new) (operands_of kept)
-  pub all_below : AreBelow (length new) (operands_of ls)
-  pub same : (set : List ℕ) → joint_at true set (values_at set new) (operands_of kept ++ operands_of (drop i ls))
-      ≡ joint_at true set (values_at set new) (operands_of ls)
+  pub grows : GainsGates old new
+  pub below : AreBelow (length new) (literal_operands kept)
+  pub all_below : AreBelow (length new) (literal_operands ls)
+  pub same : (set : List ℕ) → joint_at true set (values_at set new) (literal_operands kept ++ literal_operands (drop i ls))
+      ≡ joint_at true set (values_at set new) (literal_operands ls)
 
-pub absorbing_begins : (ls : List Literal) (old : List Gate) → AreBelow (length old) (operands_of ls)
+pub absorbing_begins : (ls : List Literal) (old : List Gate) → AreBelow (length old) (literal_operands ls)
     → Absorbing ls old old 0 []
 absorbing_begins ls old b = record {
   grows = grows_self old;
@@ -290,11 +290,11 @@ absorbing_begins ls old b = record {
 append_below : (n : ℕ) (os ps : List Operand) → AreBelow n os → AreBelow n ps → AreBelow n (os ++ ps)
 append_below n os ps a b = record { each = λ o m. ⊎_elim (λ k. a.each o k) (λ k. b.each o k) (one_split os ps o m) }
 
-drop_below : (n i : ℕ) (ls : List Literal) → AreBelow n (operands_of ls) → AreBelow n (operands_of (drop i ls))
+drop_below : (n i : ℕ) (ls : List Literal) → AreBelow n (literal_operands ls) → AreBelow n (literal_operands (drop i ls))
 drop_below n i ls a = record {
   each = λ o m.
       let r = one_unmapped literal_of (drop i ls) o m in
-      a.each o (subst (λ (z : Operand). IsOneOf (operands_of ls) z) r.2
+      a.each o (subst (λ (z : Operand). IsOneOf (literal_operands ls) z) r.2
       (one_mapped literal_of ls r.0
       (subst (λ (z : List Literal). IsOneOf z r.0) (take-append-drop i ls) (one_right (take i ls) (drop i ls) r.0 r.1))));
 }
@@ -310,84 +310,84 @@ swapped false c l r h = refl
 
 module _ (ls : List Literal) (old new more : List Gate) (i : ℕ) (kept : List Literal) (d : Literal) (h : i < length ls)
     (a : Absorbing ls old new i kept) (r : code.Operand)
-    (b : AddsBeside (operands_of (kept ++ drop (i + 1) ls)) (literal_of (get_or ls i d)) new more (Ok r)) where
+    (b : AddsBeside (literal_operands (kept ++ drop (i + 1) ls)) (literal_of (get_or ls i d)) new more (Ok r)) where
   -- at the new gates all are true exactly where the kept ones, what stands for the next and the rest are
-  all_so : (set : List ℕ) → (joint_at true set (values_at set more) (operands_of kept)
-      && (operand_at set (values_at set more) (operand_of r) && joint_at true set (values_at set more) (operands_of (drop (i + 1) ls))))
-      ≡ joint_at true set (values_at set more) (operands_of ls)
+  all_so : (set : List ℕ) → (joint_at true set (values_at set more) (literal_operands kept)
+      && (operand_at set (values_at set more) (operand_of r) && joint_at true set (values_at set more) (literal_operands (drop (i + 1) ls))))
+      ≡ joint_at true set (values_at set more) (literal_operands ls)
   all_so set =
       let v = values_at set more in
       let x = get_or ls i d in
-      let k = joint_at true set v (operands_of kept) in
-      let c = joint_at true set v (operands_of (drop (i + 1) ls)) in
-      let split : joint_at true set v (operands_of (kept ++ drop (i + 1) ls)) ≡ (k && c) =
+      let k = joint_at true set v (literal_operands kept) in
+      let c = joint_at true set v (literal_operands (drop (i + 1) ls)) in
+      let split : joint_at true set v (literal_operands (kept ++ drop (i + 1) ls)) ≡ (k && c) =
       ap (λ z. joint_at true set v z) (map-append literal_of kept (drop (i + 1) ls))
-      ∙ joint_append set v (operands_of kept) (operands_of (drop (i + 1) ls)) in
-      let left : operands_of (drop i ls) ≡ literal_of x ∷ operands_of (drop (i + 1) ls) =
+      ∙ joint_append set v (literal_operands kept) (literal_operands (drop (i + 1) ls)) in
+      let left : literal_operands (drop i ls) ≡ literal_of x ∷ literal_operands (drop (i + 1) ls) =
       ap (map literal_of) (drop_more ls i d h) in
-      let both_below : AreBelow (length new) (operands_of kept ++ operands_of (drop i ls)) =
-      append_below (length new) (operands_of kept) (operands_of (drop i ls)) a.below (drop_below (length new) i ls a.all_below) in
+      let both_below : AreBelow (length new) (literal_operands kept ++ literal_operands (drop i ls)) =
+      append_below (length new) (literal_operands kept) (literal_operands (drop i ls)) a.below (drop_below (length new) i ls a.all_below) in
       swapped k c (operand_at set v (literal_of x)) (operand_at set v (operand_of r)) (λ t. b.same set (split ∙ t))
-      ∙ sym (joint_append set v (operands_of kept) (literal_of x ∷ operands_of (drop (i + 1) ls)))
-      ∙ sym (ap (λ z. joint_at true set v (operands_of kept ++ z)) left)
-      ∙ all_kept set (operands_of kept ++ operands_of (drop i ls)) b.grows both_below
+      ∙ sym (joint_append set v (literal_operands kept) (literal_of x ∷ literal_operands (drop (i + 1) ls)))
+      ∙ sym (ap (λ z. joint_at true set v (literal_operands kept ++ z)) left)
+      ∙ all_kept set (literal_operands kept ++ literal_operands (drop i ls)) b.grows both_below
       ∙ a.same set
-      ∙ sym (all_kept set (operands_of ls) b.grows a.all_below)
+      ∙ sym (all_kept set (literal_operands ls) b.grows a.all_below)
 
   pub absorbing_passes : r ≡ c.Always → Absorbing ls old more (i + 1) kept
   absorbing_passes e = record {
     grows = grows_on a.grows b.grows;
-    below = all_below_kept (operands_of kept) b.grows a.below;
-    all_below = all_below_kept (operands_of ls) b.grows a.all_below;
+    below = all_below_kept (literal_operands kept) b.grows a.below;
+    all_below = all_below_kept (literal_operands ls) b.grows a.all_below;
     same = λ set.
-        joint_append set (values_at set more) (operands_of kept) (operands_of (drop (i + 1) ls))
-        ∙ ap (λ z. joint_at true set (values_at set more) (operands_of kept)
-        && (operand_at set (values_at set more) z && joint_at true set (values_at set more) (operands_of (drop (i + 1) ls))))
+        joint_append set (values_at set more) (literal_operands kept) (literal_operands (drop (i + 1) ls))
+        ∙ ap (λ z. joint_at true set (values_at set more) (literal_operands kept)
+        && (operand_at set (values_at set more) z && joint_at true set (values_at set more) (literal_operands (drop (i + 1) ls))))
         (sym (ap operand_of e))
         ∙ all_so set;
   }
 
-  pub absorbing_never : r ≡ c.Never → (set : List ℕ) → joint_at true set (values_at set more) (operands_of ls) ≡ false
+  pub absorbing_never : r ≡ c.Never → (set : List ℕ) → joint_at true set (values_at set more) (literal_operands ls) ≡ false
   absorbing_never e = λ set.
       sym (all_so set)
-      ∙ ap (λ z. joint_at true set (values_at set more) (operands_of kept)
-      && (operand_at set (values_at set more) z && joint_at true set (values_at set more) (operands_of (drop (i + 1) ls))))
+      ∙ ap (λ z. joint_at true set (values_at set more) (literal_operands kept)
+      && (operand_at set (values_at set more) z && joint_at true set (values_at set more) (literal_operands (drop (i + 1) ls))))
       (ap operand_of e)
-      ∙ false_and (joint_at true set (values_at set more) (operands_of kept)) false refl
+      ∙ false_and (joint_at true set (values_at set more) (literal_operands kept)) false refl
 
   pub absorbing_keeps : (l : Literal) (kept_too : List Literal) → operand_of r ≡ literal_of l → kept_too ≡ kept ++ l ∷ []
       → Absorbing ls old more (i + 1) kept_too
   absorbing_keeps l kept_too e m = record {
     grows = grows_on a.grows b.grows;
     below = subst (λ (z : List Operand). AreBelow (length more) z) (sym grown)
-        (below_more (length more) (operands_of kept) (literal_of l) (all_below_kept (operands_of kept) b.grows a.below)
+        (below_more (length more) (literal_operands kept) (literal_of l) (all_below_kept (literal_operands kept) b.grows a.below)
         (subst (λ (z : Operand). IsBelow (length more) z) e b.below));
-    all_below = all_below_kept (operands_of ls) b.grows a.all_below;
+    all_below = all_below_kept (literal_operands ls) b.grows a.all_below;
     same = λ set.
         let v = values_at set more in
-        ap (λ z. joint_at true set v (z ++ operands_of (drop (i + 1) ls))) grown
+        ap (λ z. joint_at true set v (z ++ literal_operands (drop (i + 1) ls))) grown
         ∙ ap (λ z. joint_at true set v z)
-        (append_assoc (operands_of kept) (literal_of l ∷ []) (operands_of (drop (i + 1) ls)))
-        ∙ joint_append set v (operands_of kept) (literal_of l ∷ operands_of (drop (i + 1) ls))
-        ∙ ap (λ z. joint_at true set v (operands_of kept)
-        && (operand_at set v z && joint_at true set v (operands_of (drop (i + 1) ls)))) (sym e)
+        (append_assoc (literal_operands kept) (literal_of l ∷ []) (literal_operands (drop (i + 1) ls)))
+        ∙ joint_append set v (literal_operands kept) (literal_of l ∷ literal_operands (drop (i + 1) ls))
+        ∙ ap (λ z. joint_at true set v (literal_operands kept)
+        && (operand_at set v z && joint_at true set v (literal_operands (drop (i + 1) ls)))) (sym e)
         ∙ all_so set;
   }
     where
-      grown : operands_of kept_too ≡ operands_of kept ++ literal_of l ∷ []
+      grown : literal_operands kept_too ≡ literal_operands kept ++ literal_of l ∷ []
       grown = ap (map literal_of) m ∙ map-append literal_of kept (l ∷ [])
 
 pub absorbing_ends : (ls : List Literal) (old new : List Gate) (i : ℕ) (kept : List Literal) → drop i ls ≡ []
     → Absorbing ls old new i kept → (set : List ℕ)
-    → joint_at true set (values_at set new) (operands_of kept) ≡ joint_at true set (values_at set new) (operands_of ls)
+    → joint_at true set (values_at set new) (literal_operands kept) ≡ joint_at true set (values_at set new) (literal_operands ls)
 absorbing_ends ls old new i kept e a = λ set.
     ap (λ z. joint_at true set (values_at set new) z)
-    (sym (append-nil (operands_of kept)) ∙ ap (λ (z : List Literal). operands_of kept ++ operands_of z) (sym e))
+    (sym (append-nil (literal_operands kept)) ∙ ap (λ (z : List Literal). literal_operands kept ++ literal_operands z) (sym e))
     ∙ a.same set
 
 -- ---- what is made of what is left
-pub simplest_never : (os : List Operand) (old new : List Gate) → Grows old new → AreBelow (length old) os
-    → ((set : List ℕ) → joint_at true set (values_at set new) os ≡ false) → Adds os old new (Ok c.Never)
+pub simplest_never : (os : List Operand) (old new : List Gate) → GainsGates old new → AreBelow (length old) os
+    → ((set : List ℕ) → joint_at true set (values_at set new) os ≡ false) → AddsGates os old new (Ok c.Never)
 simplest_never os old new grown b never = record {
   grows = grown;
   made = record {
@@ -397,10 +397,10 @@ simplest_never os old new grown b never = record {
   };
 }
 
-pub simplest_adds : (os left : List Operand) (old mid new : List Gate) (r : Result code.Operand Unshared) → Grows old mid
+pub simplest_adds : (os left : List Operand) (old mid new : List Gate) (r : Result code.Operand Unshared) → GainsGates old mid
     → AreBelow (length old) os → AreBelow (length mid) left
     → ((set : List ℕ) → joint_at true set (values_at set mid) left ≡ joint_at true set (values_at set mid) os)
-    → Adds left mid new r → Adds os old new r
+    → AddsGates left mid new r → AddsGates os old new r
 simplest_adds os left old mid new (Err e) grown b l same a = record { grows = grows_on grown a.grows; made = tt }
 simplest_adds os left old mid new (Ok r) grown b l same a = record {
   grows = grows_on grown a.grows;

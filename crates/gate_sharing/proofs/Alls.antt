@@ -15,7 +15,7 @@ use Rattle.eq_core.proofs.Telling.{turned}
 use Rattle.gate_sharing.specs.declared.literals.Literal.{Literal}
 use Rattle.ar_base.specs.declared.faults.Memory.{Memory}
 use Rattle.gate_sharing.specs.declared.literals.Literals.{Literals}
-use Rattle.gate_sharing.specs.Literals.{literal_of, operands_of, AreEnough, AreNeverAll}
+use Rattle.gate_sharing.specs.Literals.{literal_of, literal_operands, AreEnough, AreNeverAll}
 
 pub all_each : (set : List ℕ) (values : List Bool) (os : List Operand) → joint_at true set values os ≡ true
     → (o : Operand) → IsOneOf os o → operand_at set values o ≡ true
@@ -73,8 +73,8 @@ same_enough os ps s = record {
   within = s.back;
 }
 
-pub literals_enough : (os ps : List Literal) → Same os ps → AreEnough (operands_of os) (operands_of ps)
-literals_enough os ps s = same_enough (operands_of os) (operands_of ps) (same_map literal_of os ps s)
+pub literals_enough : (os ps : List Literal) → Same os ps → AreEnough (literal_operands os) (literal_operands ps)
+literals_enough os ps s = same_enough (literal_operands os) (literal_operands ps) (same_map literal_of os ps s)
 
 pub enough_on : (os ps qs : List Operand) → AreEnough os ps → AreEnough ps qs → AreEnough os qs
 enough_on os ps qs a b = record {
@@ -140,12 +140,12 @@ one_of_front xs i a m = subst (λ (z : List Literal). IsOneOf z a) (take-append-
 
 -- the next literal is the opposite of one that was kept
 pub opposites_found : (kept xs : List Literal) (i : ℕ) (d last : Literal) → i < length xs → IsOneOf kept last
-    → literal_of last ≡ opposite (literal_of (get_or xs i d)) → Same (take i xs) kept → AreNeverAll (operands_of xs)
+    → literal_of last ≡ opposite (literal_of (get_or xs i d)) → Same (take i xs) kept → AreNeverAll (literal_operands xs)
 opposites_found kept xs i d last h m e s =
     let next = get_or xs i d in
-    never_both (operands_of xs) (literal_of next)
+    never_both (literal_operands xs) (literal_of next)
     (one_mapped literal_of xs next (one_here xs i next (stands_get xs i d h)))
-    (subst (λ (z : Operand). IsOneOf (operands_of xs) z) e
+    (subst (λ (z : Operand). IsOneOf (literal_operands xs) z) e
     (one_mapped literal_of xs last (one_of_front xs i last (s.back last m))))
 
 -- the same literals in another order
@@ -157,14 +157,14 @@ permuted xs ys p = record {
 
 -- what is found of them is found of both
 pub found_as : (os ss : List Literal) (r : Result (Option Literals) Memory) → Same os ss
-    → IfOk r (λ found. MatchOption found (AreNeverAll (operands_of ss))
-    (λ key. AreEnough (operands_of ss) (operands_of key.all.items)))
-    → IfOk r (λ found. MatchOption found (AreNeverAll (operands_of os))
-    (λ key. AreEnough (operands_of os) (operands_of key.all.items)))
+    → IfOk r (λ found. MatchOption found (AreNeverAll (literal_operands ss))
+    (λ key. AreEnough (literal_operands ss) (literal_operands key.all.items)))
+    → IfOk r (λ found. MatchOption found (AreNeverAll (literal_operands os))
+    (λ key. AreEnough (literal_operands os) (literal_operands key.all.items)))
 found_as os ss (Err e) s f = tt
-found_as os ss (Ok None) s f = never_on (operands_of os) (operands_of ss) (literals_enough os ss s) f
+found_as os ss (Ok None) s f = never_on (literal_operands os) (literal_operands ss) (literals_enough os ss s) f
 found_as os ss (Ok (Some key)) s f =
-    enough_on (operands_of os) (operands_of ss) (operands_of key.all.items) (literals_enough os ss s) f
+    enough_on (literal_operands os) (literal_operands ss) (literal_operands key.all.items) (literals_enough os ss s) f
 
 -- ---- literals of needed operands, one by one
 pub enough_none : AreEnough [] []

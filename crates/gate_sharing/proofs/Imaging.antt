@@ -6,11 +6,11 @@ use Rattle.ar_base.proofs.Standing.{stands_one, stands_within, stands_get, stand
 use Rattle.eq_core.specs.Gates.{Operand, Always, Never, EventIs, GateIs, Gate, Table}
 use Rattle.eq_core.specs.Ordered.{AreBelow, AreOrdered, IsOrderedTable}
 use Rattle.eq_core.specs.Values.{signed, operand_at, joint_at, values_at, value_at}
-use Rattle.eq_core.specs.ValuesInside.{IsBelow, Grows}
+use Rattle.eq_core.specs.ValuesInside.{IsBelow, GainsGates}
 use Rattle.eq_core.proofs.Telling.{gate_value, place_below, turned, opposite_below, value_kept, below_kept}
 use Rattle.gate_cones.specs.Cones.{own, named}
-use Rattle.gate_cones.specs.Marks.{AreMarks}
-use Rattle.gate_sharing.specs.Images.{with_sign, image, needed_for, IsNeeded, IsImage, AreImages}
+use Rattle.gate_cones.specs.Marks.{AreConeMarks}
+use Rattle.gate_sharing.specs.Images.{with_sign, image, needed_for, RestsOnGate, IsGateImage, AreImages}
 use Rattle.gate_sharing.specs.Simplified.{HaveSameValues}
 use Rattle.gate_sharing.proofs.Alls.{one_unmapped}
 use Rattle.gate_sharing.proofs.Making.{morgan_back}
@@ -44,7 +44,7 @@ joint_same true set v w f (o ∷ os) h =
 joint_same false set v w f (o ∷ os) h =
     ap₂ (λ a b. a || b) (h o (one_first o os)) (joint_same false set v w f os (λ p m. h p (one_rest o os p m)))
 
-image_kept : {old new more : List Gate} {n : ℕ} {o : Operand} → Grows new more → IsImage old new n o → IsImage old more n o
+image_kept : {old new more : List Gate} {n : ℕ} {o : Operand} → GainsGates new more → IsGateImage old new n o → IsGateImage old more n o
 image_kept {o = o} grown i = record {
   below = below_kept o grown i.below;
   same = λ set. value_kept set o grown i.below ∙ i.same set;
@@ -55,7 +55,7 @@ images_none table new = record { each = λ n o s. absurd (stands_none n o s) }
 
 module _ (table : Table) (new : List Gate) (images : List Operand) (a : AreImages table new images) where
   -- what an operand has that names a needed gate that has its image
-  pub image_below : (o : Operand) → IsBelow (length images) o → ((g : ℕ) (sign : Bool) → o ≡ GateIs g sign → IsNeeded table g)
+  pub image_below : (o : Operand) → IsBelow (length images) o → ((g : ℕ) (sign : Bool) → o ≡ GateIs g sign → RestsOnGate table g)
       → IsBelow (length new) (image images o)
   image_below Always b n = tt
   image_below Never b n = tt
@@ -65,7 +65,7 @@ module _ (table : Table) (new : List Gate) (images : List Operand) (a : AreImage
       (a.each g (get_or images g Never) (stands_get images g Never b) (n g sign refl)).below
 
   pub image_value : (set : List ℕ) (o : Operand) → IsBelow (length images) o
-      → ((g : ℕ) (sign : Bool) → o ≡ GateIs g sign → IsNeeded table g)
+      → ((g : ℕ) (sign : Bool) → o ≡ GateIs g sign → RestsOnGate table g)
       → value_at new (image images o) set ≡ value_at table.gates o set
   image_value set Always b n = refl
   image_value set Never b n = refl
@@ -78,8 +78,8 @@ module _ (table : Table) (new : List Gate) (images : List Operand) (a : AreImage
 
 module _ (table : Table) (ordered : AreOrdered table.gates) (gate : Gate) (n : ℕ) (stands : Stands table.gates n gate) where
   -- the operands of a needed gate name needed gates
-  names_needed : IsNeeded table n → (o : Operand) → IsOneOf gate.operands o
-      → (g : ℕ) (sign : Bool) → o ≡ GateIs g sign → IsNeeded table g
+  names_needed : RestsOnGate table n → (o : Operand) → IsOneOf gate.operands o
+      → (g : ℕ) (sign : Bool) → o ≡ GateIs g sign → RestsOnGate table g
   names_needed i o m g sign e =
       let k = subst (λ (z : Operand). IsOneOf gate.operands z) e m in
       ⊎_elim (λ x. inl (named x stands k)) (λ x. inr (named x stands k)) i
@@ -89,7 +89,7 @@ module _ (table : Table) (ordered : AreOrdered table.gates) (gate : Gate) (n : �
       subst (λ k. AreBelow k gate.operands) (sym e) (place_below (ordered.each n gate stands))
 
   pub needed_below : (new : List Gate) (images : List Operand) → AreImages table new images → length images ≡ n
-      → IsNeeded table n → AreBelow (length new) (needed_for gate.both images gate.operands)
+      → RestsOnGate table n → AreBelow (length new) (needed_for gate.both images gate.operands)
   needed_below new images a e i = record {
     each = λ o m.
         let r = one_unmapped (λ (p : Operand). with_sign gate.both (image images p)) gate.operands o m in
@@ -99,8 +99,8 @@ module _ (table : Table) (ordered : AreOrdered table.gates) (gate : Gate) (n : �
   }
 
   pub images_more : (new more : List Gate) (images : List Operand) (o : Operand) → AreImages table new images
-      → length images ≡ n → Grows new more → IsBelow (length more) o
-      → (IsNeeded table n → (set : List ℕ) → value_at more o set
+      → length images ≡ n → GainsGates new more → IsBelow (length more) o
+      → (RestsOnGate table n → (set : List ℕ) → value_at more o set
       ≡ signed gate.both (joint_at true set (values_at set more) (needed_for gate.both images gate.operands)))
       → AreImages table more (images ++ o ∷ [])
   images_more new more images o a e grown below made = record {
@@ -108,16 +108,16 @@ module _ (table : Table) (ordered : AreOrdered table.gates) (gate : Gate) (n : �
         (λ x. image_kept grown (a.each k p x i))
         (λ x. let y = stands_alone o x.0 p x.2 in
         let at : k ≡ n = omega (arith, x.1, y.0, e) in
-        subst (λ (j : ℕ). IsImage table.gates more j p) (sym at)
-        (subst (λ (z : Operand). IsImage table.gates more n z) (sym y.1)
-        (next (subst (λ (j : ℕ). IsNeeded table j) at i))))
+        subst (λ (j : ℕ). IsGateImage table.gates more j p) (sym at)
+        (subst (λ (z : Operand). IsGateImage table.gates more n z) (sym y.1)
+        (next (subst (λ (j : ℕ). RestsOnGate table j) at i))))
         (stands_split images (o ∷ []) k p s);
   }
     where
       still : AreImages table more images
       still = record { each = λ k p s i. image_kept grown (a.each k p s i) }
 
-      next : IsNeeded table n → IsImage table.gates more n o
+      next : RestsOnGate table n → IsGateImage table.gates more n o
       next i = record {
         below = below;
         same = λ set.
@@ -130,8 +130,8 @@ module _ (table : Table) (ordered : AreOrdered table.gates) (gate : Gate) (n : �
       }
 
 -- marks of both cones
-pub needed_marked : (table : Table) (conflict top : List Bool) (n : ℕ) → AreMarks table.gates table.conflict conflict
-    → AreMarks table.gates table.top top → n < length table.gates → IsNeeded table n
+pub needed_marked : (table : Table) (conflict top : List Bool) (n : ℕ) → AreConeMarks table.gates table.conflict conflict
+    → AreConeMarks table.gates table.top top → n < length table.gates → RestsOnGate table n
     → (get_or conflict n false || get_or top n false) ≡ true
 needed_marked table conflict top n c t h i = ⊎_elim
     (λ x. or_left (get_or conflict n false) (get_or top n false) (read conflict (c.whole n x h)))
@@ -140,18 +140,18 @@ needed_marked table conflict top n c t h i = ⊎_elim
     read : (marks : List Bool) → Stands marks n true → get_or marks n false ≡ true
     read marks s = stands_one marks n (get_or marks n false) true (stands_get marks n false (stands_within marks n true s)) s
 
-pub marked_needed : (table : Table) (conflict top : List Bool) (n : ℕ) → AreMarks table.gates table.conflict conflict
-    → AreMarks table.gates table.top top → n < length table.gates
-    → (get_or conflict n false || get_or top n false) ≡ true → IsNeeded table n
+pub marked_needed : (table : Table) (conflict top : List Bool) (n : ℕ) → AreConeMarks table.gates table.conflict conflict
+    → AreConeMarks table.gates table.top top → n < length table.gates
+    → (get_or conflict n false || get_or top n false) ≡ true → RestsOnGate table n
 marked_needed table conflict top n c t h e = ⊎_elim
     (λ x. inl (c.sound n (subst (λ (b : Bool). Stands conflict n b) x (stands_get conflict n false (omega (arith, c.long, h))))))
     (λ x. inr (t.sound n (subst (λ (b : Bool). Stands top n b) x (stands_get top n false (omega (arith, t.long, h))))))
     (or_cases (get_or conflict n false) (get_or top n false) e)
 
-pub conflict_needed : (table : Table) (g : ℕ) (sign : Bool) → table.conflict ≡ GateIs g sign → IsNeeded table g
+pub conflict_needed : (table : Table) (g : ℕ) (sign : Bool) → table.conflict ≡ GateIs g sign → RestsOnGate table g
 conflict_needed table g sign e = inl (own e)
 
-pub top_needed : (table : Table) (g : ℕ) (sign : Bool) → table.top ≡ GateIs g sign → IsNeeded table g
+pub top_needed : (table : Table) (g : ℕ) (sign : Bool) → table.top ≡ GateIs g sign → RestsOnGate table g
 top_needed table g sign e = inr (own e)
 
 -- the whole table

@@ -10,7 +10,7 @@ use Rattle.eq_core.specs.Views.{operand_of}
 use Rattle.eq_core.specs.declared.joints.Operand.{Operand}
 use Rattle.eq_core.specs.declared.joints.Operand.TheVariants.{Always, Never}
 use Rattle.gate_sharing.specs.declared.literals.Literal.{Literal}
-use Rattle.gate_sharing.specs.Literals.{literal_of, operands_of, AreEnough, AreNeverAll}
+use Rattle.gate_sharing.specs.Literals.{literal_of, literal_operands, AreEnough, AreNeverAll}
 use Rattle.gate_sharing.specs.Images.{with_sign, image, needed_for}
 use Rattle.gate_sharing.proofs.Alls.{one_mapped, never_one, enough_passes, enough_keeps}
 
@@ -42,20 +42,20 @@ module _ (both : Bool) (images : List g.Operand) (items : List Operand) (i : ℕ
       ∙ map-append f (map operand_of (take i items)) (operand_of x ∷ [])
       ∙ ap (λ (p : g.Operand). needed_for both images (map operand_of (take i items)) ++ p ∷ []) (sym e)
 
-  module _ (ls : List Literal) (a : AreEnough (needed_for both images (map operand_of (take i items))) (operands_of ls)) where
+  module _ (ls : List Literal) (a : AreEnough (needed_for both images (map operand_of (take i items))) (literal_operands ls)) where
     pub one_passed : o ≡ Always
-        → AreEnough (needed_for both images (map operand_of (take (i + 1) items))) (operands_of ls)
+        → AreEnough (needed_for both images (map operand_of (take (i + 1) items))) (literal_operands ls)
     one_passed n =
-        subst (λ (z : List g.Operand). AreEnough z (operands_of ls))
+        subst (λ (z : List g.Operand). AreEnough z (literal_operands ls))
         (sym (one_further ∙ ap (λ (p : g.Operand). needed_for both images (map operand_of (take i items)) ++ p ∷ [])
         (ap operand_of n)))
-        (enough_passes (needed_for both images (map operand_of (take i items))) (operands_of ls) a)
+        (enough_passes (needed_for both images (map operand_of (take i items))) (literal_operands ls) a)
 
     pub one_kept : (l : Literal) (new : List Literal) → operand_of o ≡ literal_of l → new ≡ ls ++ l ∷ []
-        → AreEnough (needed_for both images (map operand_of (take (i + 1) items))) (operands_of new)
+        → AreEnough (needed_for both images (map operand_of (take (i + 1) items))) (literal_operands new)
     one_kept l new n m =
-        subst (λ (z : List g.Operand). AreEnough z (operands_of new))
+        subst (λ (z : List g.Operand). AreEnough z (literal_operands new))
         (sym (one_further ∙ ap (λ (p : g.Operand). needed_for both images (map operand_of (take i items)) ++ p ∷ []) n))
         (subst (λ (z : List g.Operand). AreEnough (needed_for both images (map operand_of (take i items)) ++ literal_of l ∷ []) z)
         (sym (ap (map literal_of) m ∙ map-append literal_of ls (l ∷ [])))
-        (enough_keeps (needed_for both images (map operand_of (take i items))) (operands_of ls) (literal_of l) a))
+        (enough_keeps (needed_for both images (map operand_of (take i items))) (literal_operands ls) (literal_of l) a))

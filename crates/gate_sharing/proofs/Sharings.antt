@@ -8,7 +8,7 @@ use Rattle.eq_core.specs.Gates as g
 use Rattle.eq_core.specs.Gates.{Always, Never, GateIs, Gate, opposite}
 use Rattle.eq_core.specs.Ordered.{AreBelow, AreOrdered}
 use Rattle.eq_core.specs.Values.{joint_at, values_at, value_at}
-use Rattle.eq_core.specs.ValuesInside.{Grows}
+use Rattle.eq_core.specs.ValuesInside.{GainsGates}
 use Rattle.eq_core.specs.Views.{operand_of}
 use Rattle.eq_core.specs.declared.joints.Operand.{Operand}
 use Rattle.eq_core.proofs.Telling.{grows_self, value_kept, below_kept, joint_kept, in_two, longer, length_of_values}
@@ -16,13 +16,13 @@ use Rattle.gate_sharing.specs.declared.literals.Literal.{Literal}
 use Rattle.gate_sharing.specs.declared.literals.Literal.TheVariants as l
 use Rattle.gate_sharing.specs.declared.literals.Literals.{Literals}
 use Rattle.gate_sharing.specs.contracts.literals.LiteralPartialEq.TheImpl as literal
-use Rattle.gate_sharing.specs.Literals.{operands_of, AreEnough, AreNeverAll}
-use Rattle.gate_sharing.specs.Sharing.{IsAllOf, Adds}
-use Rattle.gate_sharing.specs.Known.{same_literals, IsSharing}
+use Rattle.gate_sharing.specs.Literals.{literal_operands, AreEnough, AreNeverAll}
+use Rattle.gate_sharing.specs.Sharing.{IsAllOf, AddsGates}
+use Rattle.gate_sharing.specs.Known.{same_literals, IsSoundSharing}
 use Rattle.gate_sharing.proofs.Alls.{enough_below}
 
 -- the values of operands that name no later gates stay when gates are added
-pub all_kept : (set : List ℕ) {old new : List Gate} (os : List g.Operand) → Grows old new → AreBelow (length old) os
+pub all_kept : (set : List ℕ) {old new : List Gate} (os : List g.Operand) → GainsGates old new → AreBelow (length old) os
     → joint_at true set (values_at set new) os ≡ joint_at true set (values_at set old) os
 all_kept set {old = old} {new = new} os grown below =
     let r = longer set (values_at set old) grown.more in
@@ -31,11 +31,11 @@ all_kept set {old = old} {new = new} os grown below =
     ∙ joint_kept true set (values_at set old) r.0 os
     (subst (λ n. AreBelow n os) (sym (length_of_values set old)) below)
 
-pub all_below_kept : {old new : List Gate} (os : List g.Operand) → Grows old new → AreBelow (length old) os
+pub all_below_kept : {old new : List Gate} (os : List g.Operand) → GainsGates old new → AreBelow (length old) os
     → AreBelow (length new) os
 all_below_kept os grown below = record { each = λ o m. below_kept o grown (below.each o m) }
 
-pub all_of_kept : {old new : List Gate} {o : g.Operand} {os : List g.Operand} → Grows old new → IsAllOf old o os
+pub all_of_kept : {old new : List Gate} {o : g.Operand} {os : List g.Operand} → GainsGates old new → IsAllOf old o os
     → IsAllOf new o os
 all_of_kept {o = o} {os = os} grown a = record {
   below = below_kept o grown a.below;
@@ -62,10 +62,10 @@ enough_of_all {gates = gates} {os = os} {ps = ps} e a = record {
 
 -- what was made without a new gate
 pub adds_none : (gates : List Gate) (os : List g.Operand) (r : Operand) → IsAllOf gates (operand_of r) os
-    → Adds os gates gates (Ok r)
+    → AddsGates os gates gates (Ok r)
 adds_none gates os r a = record { grows = grows_self gates; made = a }
 
-pub adds_refused : (gates : List Gate) (os : List g.Operand) (e : _) → Adds os gates gates (Err e)
+pub adds_refused : (gates : List Gate) (os : List g.Operand) (e : _) → AddsGates os gates gates (Err e)
 adds_refused gates os e = record { grows = grows_self gates; made = tt }
 
 pub all_of_none : (gates : List Gate) (os : List g.Operand) → AreBelow (length gates) os → AreEnough os []
@@ -121,28 +121,28 @@ one_key (x ∷ xs) (y ∷ ys) h =
 
 -- the table has one operand more
 pub sharing_more : (old new : List Gate) (k : Literals) (o : Operand) (known more : List (Literals × Operand))
-    → Grows old new → AreOrdered new → IsAllOf new (operand_of o) (operands_of k.all.items) → IsSharing old known
+    → GainsGates old new → AreOrdered new → IsAllOf new (operand_of o) (literal_operands k.all.items) → IsSoundSharing old known
     → ((q : Literals) → lookup (same_literals q) more ≡ cond (same_literals k q) (Some o) (lookup (same_literals q) known))
-    → IsSharing new more
+    → IsSoundSharing new more
 sharing_more old new k o known more grown ordered all s u = record {
   ordered = ordered;
   each = λ q p h. step q p h (same_literals k q) refl;
 }
   where
     step : (q : Literals) (p : Operand) → lookup (same_literals q) more ≡ Some p → (b : Bool) → same_literals k q ≡ b
-        → IsAllOf new (operand_of p) (operands_of q.all.items)
+        → IsAllOf new (operand_of p) (literal_operands q.all.items)
     step q p h true e =
         let x : Some p ≡ Some o = sym h ∙ u q ∙ ap (λ b. cond b (Some o) (lookup (same_literals q) known)) e in
         let y : o ≡ p = cc in
-        subst (λ (z : Operand). IsAllOf new (operand_of z) (operands_of q.all.items)) y
-        (subst (λ (z : List Literal). IsAllOf new (operand_of o) (operands_of z)) (one_key k.all.items q.all.items e) all)
+        subst (λ (z : Operand). IsAllOf new (operand_of z) (literal_operands q.all.items)) y
+        (subst (λ (z : List Literal). IsAllOf new (operand_of o) (literal_operands z)) (one_key k.all.items q.all.items e) all)
     step q p h false e =
         all_of_kept grown (s.each q p
         (ap (λ b. cond b (Some o) (lookup (same_literals q) known)) (sym e) ∙ sym (u q) ∙ h))
 
 -- the gates grew, and the table is as it was
-pub sharing_kept : (old new : List Gate) (known more : List (Literals × Operand)) → Grows old new → AreOrdered new
-    → more ≡ known → IsSharing old known → IsSharing new more
+pub sharing_kept : (old new : List Gate) (known more : List (Literals × Operand)) → GainsGates old new → AreOrdered new
+    → more ≡ known → IsSoundSharing old known → IsSoundSharing new more
 sharing_kept old new known more grown ordered e s = record {
   ordered = ordered;
   each = λ q p h. all_of_kept grown (s.each q p (ap (λ z. lookup (same_literals q) z) (sym e) ∙ h));

@@ -6,16 +6,16 @@ use Rattle.gate_sharing.specs.declared.unshared.Unshared.{Unshared}
 use Rattle.eq_core.specs.Gates.{Operand, Always, Never, Gate}
 use Rattle.eq_core.specs.Ordered.{AreBelow}
 use Rattle.eq_core.specs.Values.{operand_at, joint_at, values_at, value_at}
-use Rattle.eq_core.specs.ValuesInside.{IsBelow, Grows}
+use Rattle.eq_core.specs.ValuesInside.{IsBelow, GainsGates}
 use Rattle.eq_core.specs.Views.{operand_of}
 use Rattle.eq_core.specs.declared.joints.Operand as code
 use Rattle.gate_sharing.specs.declared.literals.Literal.{Literal}
-use Rattle.gate_sharing.specs.Literals.{operands_of}
+use Rattle.gate_sharing.specs.Literals.{literal_operands}
 use Rattle.gate_sharing.specs.Images.{with_sign}
 
 -- what is all needed for a gate of And, or for the opposite of one of Or
-abbrev pub parts_of : Gate → List Operand
-parts_of gate = map (with_sign gate.both) gate.operands
+abbrev pub needed_parts : Gate → List Operand
+needed_parts gate = map (with_sign gate.both) gate.operands
 
 -- r is always true, never true or the operand itself, and has its value wherever all of the others are true
 pub record IsBeside (others : List Operand) (o r : Operand) : Type 0 where
@@ -39,7 +39,7 @@ pub record AreNeverBeside (others os : List Operand) : Type 0 where
 -- the others are true
 pub record AddsBeside (others : List Operand) (o : Operand) (old new : List Gate) (r : Result code.Operand Unshared)
     : Type 0 where
-  pub grows : Grows old new
+  pub grows : GainsGates old new
   pub below : IfOk r (λ p. IsBelow (length new) (operand_of p))
   pub same : IfOk r (λ p. (set : List ℕ) → joint_at true set (values_at set new) others ≡ true
       → value_at new (operand_of p) set ≡ value_at new o set)
@@ -48,9 +48,9 @@ pub record AddsBeside (others : List Operand) (o : Operand) (old new : List Gate
 -- all of the operands are; nothing is left to be found where they are never all true
 abbrev pub LeavesOf : List Operand → List Gate → Option (Vec Literal Global) → Type 0
 LeavesOf os new None = (set : List ℕ) → joint_at true set (values_at set new) os ≡ false
-LeavesOf os new (Some ls) = AreBelow (length new) (operands_of ls.items)
-    × ((set : List ℕ) → joint_at true set (values_at set new) (operands_of ls.items) ≡ joint_at true set (values_at set new) os)
+LeavesOf os new (Some ls) = AreBelow (length new) (literal_operands ls.items)
+    × ((set : List ℕ) → joint_at true set (values_at set new) (literal_operands ls.items) ≡ joint_at true set (values_at set new) os)
 
 pub record Absorbs (os : List Operand) (old new : List Gate) (r : Result (Option (Vec Literal Global)) Unshared) : Type 0 where
-  pub grows : Grows old new
+  pub grows : GainsGates old new
   pub left : IfOk r (λ found. LeavesOf os new found)

@@ -12,8 +12,8 @@ literal_of (Event e sign) = EventIs e sign
 literal_of (Gate g sign) = GateIs g sign
 
 -- literals as operands
-abbrev pub operands_of : List Literal → List Operand
-operands_of ls = map literal_of ls
+abbrev pub literal_operands : List Literal → List Operand
+literal_operands ls = map literal_of ls
 
 -- ps are some of the operands, and all of them are true exactly where all of the operands are
 pub record AreEnough (os ps : List Operand) : Type 0 where

@@ -3,8 +3,8 @@
 ghost use Rattle.std.specs.Prelude.{◌≡◌, ◌++◌, map, true, IfOk, MatchOption};
 ghost use Rattle.ar_base.specs.Lists.{IsOneOf};
 ghost use Rattle.eq_core.specs.Views.{gate_of, operand_of};
-ghost use Rattle.gate_sharing.specs.Absorbing.{parts_of, IsBeside, AreEnoughBeside, AreNeverBeside};
-ghost use Rattle.gate_sharing.specs.Literals.{literal_of, operands_of};
+ghost use Rattle.gate_sharing.specs.Absorbing.{needed_parts, IsBeside, AreEnoughBeside, AreNeverBeside};
+ghost use Rattle.gate_sharing.specs.Literals.{literal_of, literal_operands};
 
 use crate::literals::{Literal, for_joint, negated};
 use ar_base::Memory;
@@ -41,9 +41,9 @@ pub(crate) fn left_beside(
     before: &[Literal],
     after: &[Literal],
 ) -> Result<Option<Vec<Literal>>, Memory>
-    ensures { IfOk result (λ found. let others = operands_of (before.now ++ after.now) in
-        MatchOption found (AreNeverBeside others (parts_of (gate_of gate.now)))
-        (λ left. AreEnoughBeside others (parts_of (gate_of gate.now)) (operands_of left.items))) }
+    ensures { IfOk result (λ found. let others = literal_operands (before.now ++ after.now) in
+        MatchOption found (AreNeverBeside others (needed_parts (gate_of gate.now)))
+        (λ left. AreEnoughBeside others (needed_parts (gate_of gate.now)) (literal_operands left.items))) }
 {
     let mut left = Vec::new(alloc);
     for operand in &gate.operands {
@@ -59,7 +59,7 @@ pub(crate) fn left_beside(
 
 // The operand, or the constant that it is wherever all of these literals are true.
 fn beside(operand: Operand, before: &[Literal], after: &[Literal]) -> Operand
-    ensures { IsBeside (operands_of (before.now ++ after.now)) (operand_of operand) (operand_of result) }
+    ensures { IsBeside (literal_operands (before.now ++ after.now)) (operand_of operand) (operand_of result) }
 {
     if has(before, after, operand) {
         return Operand::Always;
@@ -72,7 +72,7 @@ fn beside(operand: Operand, before: &[Literal], after: &[Literal]) -> Operand
 
 // Whether the operand is one of these literals.
 fn has(before: &[Literal], after: &[Literal], operand: Operand) -> bool
-    ensures { result ≡ true → IsOneOf (operands_of (before.now ++ after.now)) (operand_of operand) }
+    ensures { result ≡ true → IsOneOf (literal_operands (before.now ++ after.now)) (operand_of operand) }
 {
     let literal = match operand {
         Operand::Always => return false,

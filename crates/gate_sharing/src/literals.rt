@@ -4,7 +4,7 @@ ghost use Rattle.std.specs.Prelude.{◌≡◌, IfOk, MatchOption};
 ghost use Rattle.eq_core.specs.Gates.{opposite};
 ghost use Rattle.eq_core.specs.Views.{all_needed, operand_of};
 ghost use Rattle.gate_sharing.specs.Images.{with_sign};
-ghost use Rattle.gate_sharing.specs.Literals.{literal_of, operands_of, AreEnough, AreNeverAll};
+ghost use Rattle.gate_sharing.specs.Literals.{literal_of, literal_operands, AreEnough, AreNeverAll};
 
 use ar_base::{EventId, GateId, Memory};
 use eq_core::{Joint, Operand};
@@ -78,8 +78,8 @@ pub(crate) struct Literals {
 
 /// The same literals in order, each once. None where two of them are opposites, so that not all of them can be true.
 pub(crate) fn in_order(alloc: Global, literals: &[Literal]) -> Result<Option<Literals>, Memory>
-    ensures { IfOk result (λ found. MatchOption found (AreNeverAll (operands_of literals.now))
-        (λ key. AreEnough (operands_of literals.now) (operands_of key.all.items))) }
+    ensures { IfOk result (λ found. MatchOption found (AreNeverAll (literal_operands literals.now))
+        (λ key. AreEnough (literal_operands literals.now) (literal_operands key.all.items))) }
 {
     let mut sorted = Vec::from_slice(alloc, literals)?;
     sorted.sort()?;
@@ -88,8 +88,8 @@ pub(crate) fn in_order(alloc: Global, literals: &[Literal]) -> Result<Option<Lit
 
 // Without those that are equal to the one before. None where one is its opposite.
 fn distinct(alloc: Global, sorted: &[Literal]) -> Result<Option<Literals>, Memory>
-    ensures { IfOk result (λ found. MatchOption found (AreNeverAll (operands_of sorted.now))
-        (λ key. AreEnough (operands_of sorted.now) (operands_of key.all.items))) }
+    ensures { IfOk result (λ found. MatchOption found (AreNeverAll (literal_operands sorted.now))
+        (λ key. AreEnough (literal_operands sorted.now) (literal_operands key.all.items))) }
 {
     let mut all: Vec<Literal> = Vec::new(alloc);
     for literal in sorted {

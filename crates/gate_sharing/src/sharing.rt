@@ -7,8 +7,8 @@ ghost use Rattle.eq_core.specs.ValuesInside.{IsBelow};
 ghost use Rattle.eq_core.specs.Views.{all_needed, gate_of, operand_of};
 ghost use Rattle.gate_sharing.specs.Absorbing.{Absorbs, AddsBeside};
 ghost use Rattle.gate_sharing.specs.Images.{with_sign};
-ghost use Rattle.gate_sharing.specs.Literals.{literal_of, operands_of, AreEnough};
-ghost use Rattle.gate_sharing.specs.Sharing.{Adds};
+ghost use Rattle.gate_sharing.specs.Literals.{literal_of, literal_operands, AreEnough};
+ghost use Rattle.gate_sharing.specs.Sharing.{AddsGates};
 
 use crate::absorbing::{is_over_one, left_beside};
 use crate::literals::{Literal, Literals, for_joint, in_order};
@@ -33,13 +33,13 @@ impl Model for Sharing {
     ghost use Rattle.std.specs.Prelude.{List, map};
     ghost use Rattle.eq_core.specs.Gates.{Gate as GateOf};
     ghost use Rattle.eq_core.specs.Views.{gate_of};
-    ghost use Rattle.gate_sharing.specs.Known.{IsSharing};
+    ghost use Rattle.gate_sharing.specs.Known.{IsSoundSharing};
 
     ghost Value = { List GateOf };
 
     ghost view = { λ s. map gate_of s.gates.items };
 
-    ghost invariant = { λ s. IsSharing (map gate_of s.gates.items) s.known.entries };
+    ghost invariant = { λ s. IsSoundSharing (map gate_of s.gates.items) s.known.entries };
 }
 
 impl Sharing {
@@ -71,8 +71,8 @@ impl Sharing {
         joint: Joint,
         literals: &[Literal],
     ) -> Result<Operand, Unshared>
-        requires { AreBelow (length self.old) (operands_of literals.now) }
-        ensures { Adds (operands_of literals.now) self.old self.new result }
+        requires { AreBelow (length self.old) (literal_operands literals.now) }
+        ensures { AddsGates (literal_operands literals.now) self.old self.new result }
     {
         let Some(key) = in_order(alloc, literals)? else {
             return Ok(Operand::Never);
@@ -91,8 +91,8 @@ impl Sharing {
         joint: Joint,
         literals: &[Literal],
     ) -> Result<Operand, Unshared>
-        requires { AreBelow (length self.old) (operands_of literals.now) }
-        ensures { Adds (operands_of literals.now) self.old self.new result }
+        requires { AreBelow (length self.old) (literal_operands literals.now) }
+        ensures { AddsGates (literal_operands literals.now) self.old self.new result }
     {
         if literals.len() > MOST_ABSORBED || !self.meet(literals) {
             return self.all_of(alloc, joint, literals);
@@ -105,7 +105,7 @@ impl Sharing {
 
     // Whether one of them is of a gate over an event or a gate that another one has. Where none is, they stay as they are.
     fn meet(&self, literals: &[Literal]) -> bool
-        requires { AreBelow (length self.now) (operands_of literals.now) }
+        requires { AreBelow (length self.now) (literal_operands literals.now) }
     {
         for literal in literals {
             if let Literal::Gate(number, _) = literal {
@@ -123,8 +123,8 @@ impl Sharing {
         alloc: Global,
         literals: &[Literal],
     ) -> Result<Option<Vec<Literal>>, Unshared>
-        requires { AreBelow (length self.old) (operands_of literals.now) }
-        ensures { Absorbs (operands_of literals.now) self.old self.new result }
+        requires { AreBelow (length self.old) (literal_operands literals.now) }
+        ensures { Absorbs (literal_operands literals.now) self.old self.new result }
     {
         let mut kept = Vec::new(alloc);
         for (place, literal) in literals.iter().enumerate() {
@@ -147,7 +147,7 @@ impl Sharing {
         after: &[Literal],
     ) -> Result<Operand, Unshared>
         requires literal { IsBelow (length self.old) (literal_of literal) }
-        ensures { AddsBeside (operands_of (before.now ++ after.now)) (literal_of literal) self.old
+        ensures { AddsBeside (literal_operands (before.now ++ after.now)) (literal_of literal) self.old
             self.new result }
     {
         let Literal::Gate(number, sign) = literal else {
@@ -178,9 +178,9 @@ impl Sharing {
         key: Literals,
     ) -> Result<Operand, Unshared>
         requires two { 2 ≤ length key.all.items }
-        requires enough { AreEnough (operands_of literals.now) (operands_of key.all.items) }
-        requires below { AreBelow (length self.old) (operands_of literals.now) }
-        ensures { Adds (operands_of literals.now) self.old self.new result }
+        requires enough { AreEnough (literal_operands literals.now) (literal_operands key.all.items) }
+        requires below { AreBelow (length self.old) (literal_operands literals.now) }
+        ensures { AddsGates (literal_operands literals.now) self.old self.new result }
     {
         if let Some(known) = self.known.get(&key).copied() {
             return Ok(known);
@@ -205,9 +205,9 @@ fn whole_joint(joint: Joint, sign: bool) -> Joint
 // The literals as they were written, or those in order where these are not as many.
 fn shorter<'a>(literals: &'a [Literal], key: &'a Literals) -> &'a [Literal]
     requires two { 2 ≤ length key.now.all.items }
-    requires enough { AreEnough (operands_of literals.now) (operands_of key.now.all.items) }
+    requires enough { AreEnough (literal_operands literals.now) (literal_operands key.now.all.items) }
     ensures two { 2 ≤ length result.now }
-    ensures enough { AreEnough (operands_of literals.now) (operands_of result.now) }
+    ensures enough { AreEnough (literal_operands literals.now) (literal_operands result.now) }
 {
     if literals.len() == key.all.len() {
         literals
@@ -224,9 +224,9 @@ fn gate(
     literals: &[Literal],
 ) -> Result<Operand, Unshared>
     requires two { 2 ≤ length literals.now }
-    requires below { AreBelow (length gates.old.items) (operands_of literals.now) }
+    requires below { AreBelow (length gates.old.items) (literal_operands literals.now) }
     requires ordered { AreOrdered (map gate_of gates.old.items) }
-    ensures adds { Adds (operands_of literals.now) (map gate_of gates.old.items)
+    ensures adds { AddsGates (literal_operands literals.now) (map gate_of gates.old.items)
         (map gate_of gates.new.items) result }
     ensures ordered { AreOrdered (map gate_of gates.new.items) }
 {

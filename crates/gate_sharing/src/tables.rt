@@ -5,7 +5,7 @@ ghost use Rattle.eq_core.specs.Ordered.{AreBelow, IsOrderedTable};
 ghost use Rattle.eq_core.specs.ValuesInside.{IsBelow};
 ghost use Rattle.eq_core.specs.Views.{all_needed, operand_of, table_of};
 ghost use Rattle.gate_sharing.specs.Images.{image, needed_for, AddsImage};
-ghost use Rattle.gate_sharing.specs.Literals.{operands_of, AreEnough, AreNeverAll};
+ghost use Rattle.gate_sharing.specs.Literals.{literal_operands, AreEnough, AreNeverAll};
 ghost use Rattle.gate_sharing.specs.Simplified.{HaveSameValues};
 
 use crate::literals::{Literal, for_joint, negated};
@@ -112,7 +112,7 @@ fn needed_literals(
     requires { AreBelow (length images.now) (map operand_of gate.now.operands.items) }
     ensures { IfOk result (λ found. let os = needed_for (all_needed gate.now.joint)
         (map operand_of images.now) (map operand_of gate.now.operands.items) in
-        MatchOption found (AreNeverAll os) (λ ls. AreEnough os (operands_of ls.items))) }
+        MatchOption found (AreNeverAll os) (λ ls. AreEnough os (literal_operands ls.items))) }
 {
     let mut literals = Vec::new(alloc);
     for operand in &gate.operands {

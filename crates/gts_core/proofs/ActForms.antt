@@ -10,7 +10,7 @@ use Rattle.ar_base.specs.Lists as l
 use Rattle.ar_base.specs.declared.places.Place.{Place}
 use Rattle.typed_expr.specs.Renames.{Renames}
 use Rattle.typed_expr.specs.declared.expr.Expr.{Expr, out-Expr}
-use Rattle.typed_expr.specs.PairsInside.{turned}
+use Rattle.typed_expr.specs.PairsInside.{turned_pairs}
 use Rattle.typed_expr.proofs.Renaming.{renames_turned, renames_joined}
 use Rattle.ar_meaning.specs.Systems as s
 use Rattle.ar_meaning.specs.Image.{Assign_renames}
@@ -25,7 +25,7 @@ use Rattle.ar_base.specs.Numbers.{VarId}
 use Rattle.ar_base.proofs.Items.{along_append}
 use Rattle.gts_core.specs.View.{numbered, assign_of}
 use Rattle.gts_core.specs.Copies.{IsCopy}
-use Rattle.gts_core.specs.Bound.{NumberedConditions, act_step, assigns_under, AreNumbers, AreAssigns, place_step, places_of_act, places_in, GivesAssigns, GiveAll, AreConditionCopies, conditions_in}
+use Rattle.gts_core.specs.Bound.{NumberedConditions, act_step, assigns_under, AreNumberedConditions, AreAssigns, place_step, places_of_act, places_in, GivesAssigns, GiveAll, AreConditionCopies, conditions_in}
 use Rattle.gts_core.proofs.Numbering.{IsNumber, renames_numbered, copy_numbered}
 
 arm : (act : Act) (x : Act-F Act) → out-Act act ≡ x
@@ -100,18 +100,18 @@ both_placed xs ys ps qs i j = places_append xs ys ∙ (ap (λ z. z ++ places_in 
 
 -- conditions
 same_numbered : (e : Expr VarId) → Renames (λ (m n : ℕ). m ≡ n) (out-Expr ℕ (numbered e)) (out-Expr ℕ (numbered e))
-same_numbered e = renames_joined (turned IsNumber) IsNumber (λ (m n : ℕ). m ≡ n) (λ m x n j k. sym j ∙ k)
+same_numbered e = renames_joined (turned_pairs IsNumber) IsNumber (λ (m n : ℕ). m ≡ n) (λ m x n j k. sym j ∙ k)
     (renames_turned IsNumber (renames_numbered e)) (renames_numbered e)
 
 numbers_copied : {cs : NumberedConditions} {when copies : List (Expr VarId × Bool)} → AreConditionCopies when copies
-    → AreNumbers cs when → AreNumbers cs copies
+    → AreNumberedConditions cs when → AreNumberedConditions cs copies
 numbers_copied i.none k = k
 numbers_copied (i.one_and {e = x} {f = y} r rs) (i.one_and q qs) =
     i.one_and (renames_joined (λ (m n : ℕ). m ≡ n) (λ (m n : ℕ). m ≡ n) (λ (m n : ℕ). m ≡ n) (λ a b c j k. j ∙ k) q
     (copy_numbered x y r)) (numbers_copied rs qs)
 
-numbers_more : (cs : NumberedConditions) (when : List (Expr VarId × Bool)) (t : Expr VarId) (b : Bool) → AreNumbers cs
-    when → AreNumbers (cs ++ (numbered t, b) ∷ []) (when ++ (t, b) ∷ [])
+numbers_more : (cs : NumberedConditions) (when : List (Expr VarId × Bool)) (t : Expr VarId) (b : Bool) → AreNumberedConditions cs
+    when → AreNumberedConditions (cs ++ (numbered t, b) ∷ []) (when ++ (t, b) ∷ [])
 numbers_more [] [] t b i.none = i.one_and (same_numbered t) i.none
 numbers_more (c ∷ cs) ((e, d) ∷ when) t b (i.one_and q qs) = i.one_and q (numbers_more cs when t b qs)
 numbers_more [] (e ∷ when) t b k = elim k [ ]
@@ -245,7 +245,7 @@ pub give_whole : (act : Act) (when : List (Expr VarId × Bool)) (old new : List 
     → GivesAssigns act when old new → AreAssigns (assigns_under act []) new
 give_whole act when old new e j g =
     subst (λ z. AreAssigns (assigns_under act []) z) (sym (g.is ∙ ap (λ z. z ++ g.added) j))
-    (g.are [] (subst (λ z. AreNumbers [] z) (sym e) i.none))
+    (g.are [] (subst (λ z. AreNumberedConditions [] z) (sym e) i.none))
 
 pub give_places : (act : Act) (when : List (Expr VarId × Bool)) (old new : List Assign) → old ≡ []
     → GivesAssigns act when old new → places_in new ≡ places_of_act act

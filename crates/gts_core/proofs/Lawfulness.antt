@@ -8,7 +8,7 @@ use Rattle.domains.specs.declared.Value.{Value}
 use Rattle.domains.proofs.Domains.{listed, held}
 use Rattle.typed_expr.specs.Kinds.{kind_of, HasKind}
 use Rattle.typed_expr.specs.Mentions.{Mentions}
-use Rattle.typed_expr.specs.PairsInside.{turned}
+use Rattle.typed_expr.specs.PairsInside.{turned_pairs}
 use Rattle.typed_expr.proofs.Renaming.{mentions_carry, renames_turned}
 use Rattle.typed_expr.specs.declared.expr.Expr.{Expr, out-Expr}
 use Rattle.typed_expr.specs.declared.expr.ValueKind.{ValueKind}
@@ -39,7 +39,7 @@ module _ (p : GtsParts) where
   typed_inside : (e : Expr VarId) (k : ValueKind) → IsTyped p e k → (n : ℕ) → Mentions n (out-Expr ℕ (numbered e))
       → n < length p.variables.items
   typed_inside e k t n m =
-      let r = mentions_carry (turned IsNumber) n m (renames_turned IsNumber (renames_numbered e)) in
+      let r = mentions_carry (turned_pairs IsNumber) n m (renames_turned IsNumber (renames_numbered e)) in
       subst (λ (z : ℕ). z < length p.variables.items) r.related (t.variables r.other r.stands)
 
   conditions_typed : (when : List (Expr VarId × Bool))

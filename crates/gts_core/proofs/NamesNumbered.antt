@@ -1,7 +1,7 @@
 -- The variables that an assignment reads, by number and by plain number.
 use Rattle.std.proofs.Common.{◌≡◌, ℕ, ◌⊎◌, inl, inr, Bool, List, [], ◌∷◌, map, sym, subst}
 use Rattle.ar_base.specs.Numbers.{VarId}
-use Rattle.typed_expr.specs.PairsInside.{turned}
+use Rattle.typed_expr.specs.PairsInside.{turned_pairs}
 use Rattle.typed_expr.specs.Mentions.{Mentions}
 use Rattle.typed_expr.proofs.Renaming.{mentions_carry, renames_turned}
 use Rattle.typed_expr.specs.declared.expr.Expr.{Expr, out-Expr}
@@ -23,7 +23,7 @@ mentions_there v e d = let r = mentions_carry IsNumber v d (renames_numbered e) 
 
 pub mentions_back : (x : ℕ) (e : Expr VarId) → Mentions x (out-Expr ℕ (numbered e))
     → ByNumber (λ v. Mentions v (out-Expr VarId e)) x
-mentions_back x e d = let r = mentions_carry (turned IsNumber) x d (renames_turned IsNumber (renames_numbered e)) in record { variable = r.other; is = r.related; has = r.stands }
+mentions_back x e d = let r = mentions_carry (turned_pairs IsNumber) x d (renames_turned IsNumber (renames_numbered e)) in record { variable = r.other; is = r.related; has = r.stands }
 
 pub tests_there : (v : VarId) (cs : List (Expr VarId × Bool)) → Tests v cs → Tests v.n (map condition_of cs)
 tests_there v [] d = elim d [ ]

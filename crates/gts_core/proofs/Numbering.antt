@@ -1,7 +1,7 @@
 -- An expression over plain numbers is the expression with the numbers of its variables in their places.
 use Rattle.std.proofs.Common.{◌≡◌, ℕ, Bool, List, [], ◌∷◌, map, refl, sym, ap, ◌∙◌, subst}
 use Rattle.domains.specs.declared.Value.{Value}
-use Rattle.typed_expr.specs.PairsInside.{turned}
+use Rattle.typed_expr.specs.PairsInside.{turned_pairs}
 use Rattle.typed_expr.specs.Yields.{Level, Yields}
 use Rattle.typed_expr.specs.Renames.{Renames, All_rename, Parts_rename, Cases_rename}
 use Rattle.typed_expr.specs.Renames as r
@@ -80,14 +80,14 @@ module _ (facts : VarId → Value → Type 0) (others : ℕ → Value → Type 0
 
   pub yields_back : ((x : VarId) (w : Value) → others x.n w → facts x w) → Yields others (out-Expr ℕ (numbered e)) v
       → Yields facts (out-Expr VarId e) v
-  yields_back same h = carries ℕ VarId others facts (turned IsNumber)
+  yields_back same h = carries ℕ VarId others facts (turned_pairs IsNumber)
       (λ n x w i f. same x w (subst (λ (k : ℕ). others k w) (sym i) f)) h (renames_turned IsNumber (renames_numbered e))
 
 -- the numbered form of a copy is a copy of the numbered form
 pub copy_numbered : (e f : Expr VarId) → IsCopy e f
     → Renames (λ (m n : ℕ). m ≡ n) (out-Expr ℕ (numbered e)) (out-Expr ℕ (numbered f))
 copy_numbered e f k =
-    renames_joined (turned IsNumber) IsNumber (λ (m n : ℕ). m ≡ n) (λ m x n i j. sym i ∙ j)
+    renames_joined (turned_pairs IsNumber) IsNumber (λ (m n : ℕ). m ≡ n) (λ m x n i j. sym i ∙ j)
     (renames_turned IsNumber (renames_numbered e))
     (renames_joined IsSame IsNumber IsNumber (λ x y n i j. ap (λ (z : VarId). z.n) i ∙ j) k (renames_numbered f))
 

@@ -27,7 +27,7 @@ use Rattle.gts_core.specs.declared.system.Variable.{Variable}
 use Rattle.gts_core.specs.declared.system.GtsParts.{GtsParts}
 use Rattle.gts_core.proofs.Numbering.{yields_numbered, yields_back}
 use Rattle.gts_core.proofs.Viewing.{variable_there, are_numbered}
-use Rattle.gts_core.specs.Readings.{IsTotal, value_at, values_at, value_in, is_truth, is_met}
+use Rattle.gts_core.specs.Readings.{IsTotal, valuation_at, valuation_values, value_in, is_truth, is_met}
 use Rattle.gts_core.proofs.Tests.{and_answer}
 
 -- a value of a domain is of its kind
@@ -52,18 +52,18 @@ kinds_agree (x ∷ xs) (v ∷ t) e h zero = kind_of_held x.domain v (h zero x v 
 kinds_agree (x ∷ xs) (v ∷ t) e h (suc n) = kinds_agree xs t (omega (arith, e)) (λ k y u a b. h (suc k) y u a b) n
 
 -- the part of a list that has the value at a place
-pub one_there : (t : List Value) (n : ℕ) → n < length t → take 1 (drop n t) ≡ values_at t n
+pub one_there : (t : List Value) (n : ℕ) → n < length t → take 1 (drop n t) ≡ valuation_values t n
 one_there [] n h = absurd (omega (arith, h))
 one_there (v ∷ t) zero h = refl
 one_there (v ∷ t) (suc n) h = one_there t n (omega (arith, h))
 
-pub one_past : (t : List Value) (n : ℕ) → length t ≤ n → [] ≡ values_at t n
+pub one_past : (t : List Value) (n : ℕ) → length t ≤ n → [] ≡ valuation_values t n
 one_past [] n h = refl
 one_past (v ∷ t) zero h = absurd (omega (arith, h))
 one_past (v ∷ t) (suc n) h = one_past t n (omega (arith, h))
 
 -- a value that stands there is the one that is read
-pub read_value : (t : List Value) (n : ℕ) (v : Value) → Stands t n v → value_at t n ≡ v
+pub read_value : (t : List Value) (n : ℕ) (v : Value) → Stands t n v → valuation_at t n ≡ v
 read_value t n v h = ap (λ (o : Option Value). unwrap_or o (Truth false)) h
 
 -- the answer of a test, where v is the one value with P
@@ -87,33 +87,33 @@ module _ (p : GtsParts) (t : List Value) (total : IsTotal p t) where
       let back : Yields (λ (x : VarId) (w : Value). HasValue (net_of p) t x.n w) (out-Expr VarId e) v =
       yields_back (λ (x : VarId) (w : Value). HasValue (net_of p) t x.n w) (HasValue (net_of p) t) e v
       (λ x w f. f) h in
-      let one : Yields (facts_of (λ (x : VarId). value_at t x.n ∷ [])) (out-Expr VarId e) v =
+      let one : Yields (facts_of (λ (x : VarId). valuation_at t x.n ∷ [])) (out-Expr VarId e) v =
       yields_more VarId (λ (x : VarId) (w : Value). HasValue (net_of p) t x.n w)
-      (facts_of (λ (x : VarId). value_at t x.n ∷ []))
-      (λ x w f. subst (λ (z : Value). Contains (value_at t x.n ∷ []) z)
+      (facts_of (λ (x : VarId). valuation_at t x.n ∷ []))
+      (λ x w f. subst (λ (z : Value). Contains (valuation_at t x.n ∷ []) z)
       (read_value t x.n w (number.value_at (net_of p) (are_numbered p) t x.n w f))
-      (contains-head (value_at t x.n) [])) back in
-      (one-fact (λ (x : VarId). value_at t x.n) (variable_kind_at p)
+      (contains-head (valuation_at t x.n) [])) back in
+      (one-fact (λ (x : VarId). valuation_at t x.n) (variable_kind_at p)
       (λ x. kinds_agree p.variables.items t total.long total.in_domain x.n) e k typed.typed v).0 one
 
   -- the value is yielded
   pub value_yielded : (e : Expr VarId) (k : ValueKind) → IsTyped p e k
       → Yields (HasValue (net_of p) t) (out-Expr ℕ (numbered e)) (value_in t e)
   value_yielded e k typed =
-      let one : Yields (facts_of (λ (x : VarId). value_at t x.n ∷ [])) (out-Expr VarId e) (value_in t e) =
-      (one-fact (λ (x : VarId). value_at t x.n) (variable_kind_at p)
+      let one : Yields (facts_of (λ (x : VarId). valuation_at t x.n ∷ [])) (out-Expr VarId e) (value_in t e) =
+      (one-fact (λ (x : VarId). valuation_at t x.n) (variable_kind_at p)
       (λ x. kinds_agree p.variables.items t total.long total.in_domain x.n) e k typed.typed (value_in t e)).1
       refl in
       yields_numbered (λ (x : VarId) (w : Value). HasValue (net_of p) t x.n w) (HasValue (net_of p) t) e (value_in t e)
       (λ x w f. f)
       (yields_named (λ x w m c. known_value x w (typed.variables x m) c) one)
     where
-      known_value : (x : VarId) (w : Value) → x.n < length p.variables.items → Contains (value_at t x.n ∷ []) w
+      known_value : (x : VarId) (w : Value) → x.n < length p.variables.items → Contains (valuation_at t x.n ∷ []) w
           → HasValue (net_of p) t x.n w
       known_value x w below c =
           let y = stands_some p.variables.items x.n below in
           let v = stands_some t x.n (omega (arith, total.long)) in
-          let same : value_at t x.n ≡ w = elim (contains-cases (value_at t x.n) w [] c)
+          let same : valuation_at t x.n ≡ w = elim (contains-cases (valuation_at t x.n) w [] c)
           [ inl i ↦ i | inr c ↦ absurd (nothing-in w c) ] in
           number.value_from (net_of p) (are_numbered p) t x.n (variable_of x.n y.0) w (variable_there p x.n y.0 y.1)
           (subst (λ (z : Value). Stands t x.n z) (sym (read_value t x.n v.0 v.1) ∙ same) v.1)

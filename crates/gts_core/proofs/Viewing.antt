@@ -3,7 +3,7 @@ use Rattle.std.proofs.Common.{◌≡◌, ℕ, zero, suc, ◌+◌, List, [], ◌�
 use Rattle.ar_base.specs.Lists.{Stands}
 use Rattle.ar_base.proofs.Standing.{stands_none}
 use Rattle.ar_meaning.specs.Systems as s
-use Rattle.ar_meaning.specs.FactsInside.{AreNumbered, AreKeyed}
+use Rattle.ar_meaning.specs.FactsInside.{AreNumberedVariables, AreKeyed}
 use Rattle.ar_meaning.specs.Systems.{System, Net}
 use Rattle.ar_meaning.proofs.ByNumber.{keyed}
 use Rattle.gts_core.specs.View.{variable_of, variables_from, net_of, Views}
@@ -36,7 +36,7 @@ pub variable_back : (p : GtsParts) (n : ℕ) (y : s.Variable ℕ) → Stands (ne
 variable_back p n y h = stands_back 0 p.variables.items n n y (omega arith) h
 
 -- what stands for a variable is its number
-pub are_numbered : (p : GtsParts) → AreNumbered (net_of p)
+pub are_numbered : (p : GtsParts) → AreNumberedVariables (net_of p)
 are_numbered p = record { key = λ n y h. let r = variable_back p n y h in sym (ap (λ (z : s.Variable ℕ). z.key) r.2) }
 
 -- the variables of a system that parts view are keyed

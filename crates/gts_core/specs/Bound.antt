@@ -75,8 +75,8 @@ declared_from n [] = []
 declared_from n (e ∷ es) = declared_of n e ∷ declared_from (n + 1) es
 
 -- what stands for each condition over plain numbers, item by item
-abbrev pub AreNumbers : NumberedConditions → List (Expr VarId × Bool) → Type 0
-AreNumbers cs when = Conditions_rename (λ m n. m ≡ n) cs (map condition_of when)
+abbrev pub AreNumberedConditions : NumberedConditions → List (Expr VarId × Bool) → Type 0
+AreNumberedConditions cs when = Conditions_rename (λ m n. m ≡ n) cs (map condition_of when)
 
 -- the assignments stand, item by item, for these over plain numbers
 abbrev pub AreAssigns : List (s.Assign ℕ) → List Assign → Type 0
@@ -86,14 +86,14 @@ AreAssigns xs ys = Along (Assign_renames (λ m n. m ≡ n)) xs (map assign_of ys
 pub record GivesAssigns (act : Act) (when : List (Expr VarId × Bool)) (old new : List Assign) : Type 0 where
   pub added : List Assign
   pub is : new ≡ old ++ added
-  pub are : (cs : NumberedConditions) → AreNumbers cs when → AreAssigns (assigns_under act cs) added
+  pub are : (cs : NumberedConditions) → AreNumberedConditions cs when → AreAssigns (assigns_under act cs) added
   pub places : places_in added ≡ places_of_act act
 
 -- the same of instructions one after the other
 pub record GiveAll (acts : List Act) (when : List (Expr VarId × Bool)) (old new : List Assign) : Type 0 where
   pub added : List Assign
   pub is : new ≡ old ++ added
-  pub are : (cs : NumberedConditions) → AreNumbers cs when → AreAssigns
+  pub are : (cs : NumberedConditions) → AreNumberedConditions cs when → AreAssigns
       (flat_map (λ (a : Act). assigns_under a cs) acts) added
   pub places : places_in added ≡ flat_map places_of_act acts
 

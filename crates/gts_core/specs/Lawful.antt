@@ -8,7 +8,7 @@ use Rattle.typed_expr.specs.declared.expr.ValueKind.{ValueKind}
 use Rattle.typed_expr.specs.declared.expr.ValueKind.TheVariants as kind
 use Rattle.ar_meaning.specs.Systems.{Assign, Variable, Net}
 use Rattle.ar_meaning.specs.Facts.{Allows}
-use Rattle.ar_meaning.specs.FactsInside.{AreNumbered}
+use Rattle.ar_meaning.specs.FactsInside.{AreNumberedVariables}
 use Rattle.ar_meaning.specs.Dependence.{IsFlow, Names}
 use Rattle.gts_core.specs.Sound.{kind_of_found}
 use Rattle.gts_core.specs.declared.system.GtsParts.{GtsParts}
@@ -26,7 +26,7 @@ pub record IsTypedAssign (kinds : ℕ → ValueKind) (a : Assign ℕ) : Type 0 w
 -- their
 -- domains, whose values have the variable's kind; assertions are typed, and their targets are flows
 pub record IsLawful (net : Net ℕ) (kinds : ℕ → ValueKind) : Type 0 where
-  pub numbered : AreNumbered net
+  pub numbered : AreNumberedVariables net
   pub begins : (x : Variable ℕ) → IsOneOf net.variables x → Contains x.domain x.value
   pub of_kind : (n : ℕ) (v : Value) → Allows net n v → kind_of v ≡ kinds n
   pub typed : (a : Assign ℕ) → IsOneOf net.assertions a → IsTypedAssign kinds a

@@ -16,8 +16,8 @@ pub record IsTotal (p : GtsParts) (t : List Value) : Type 0 where
   pub in_domain : (n : ℕ) (x : Variable) (v : Value) → Stands p.variables.items n x → Stands t n v → Holds x.domain v
 
 -- the value at a place, false past the end
-abbrev pub value_at : List Value → ℕ → Value
-value_at t n = unwrap_or (slice_get t n) (Truth false)
+abbrev pub valuation_at : List Value → ℕ → Value
+valuation_at t n = unwrap_or (slice_get t n) (Truth false)
 
 -- the value that was looked up, if there is one
 abbrev pub one_or_none : Option Value → List Value
@@ -25,12 +25,12 @@ one_or_none (Some v) = v ∷ []
 one_or_none None = []
 
 -- the value at a place, if there is one
-abbrev pub values_at : List Value → ℕ → List Value
-values_at t n = one_or_none (slice_get t n)
+abbrev pub valuation_values : List Value → ℕ → List Value
+valuation_values t n = one_or_none (slice_get t n)
 
 -- the value of an expression
 abbrev pub value_in : List Value → Expr VarId → Value
-value_in t e = value_of (λ (x : VarId). value_at t x.n) e
+value_in t e = value_of (λ (x : VarId). valuation_at t x.n) e
 
 -- whether the value is this truth value
 abbrev pub is_truth : Value → Bool → Bool

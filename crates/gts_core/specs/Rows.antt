@@ -5,7 +5,7 @@ use Rattle.ar_base.specs.Lists.{Stands}
 use Rattle.domains.specs.Domains.{values_of}
 use Rattle.ar_base.specs.Numbers.{VarId}
 use Rattle.domains.specs.declared.Value.{Value}
-use Rattle.typed_expr.specs.Rows.{Rows, row_at}
+use Rattle.typed_expr.specs.Rows.{Rows, known_row_at}
 use Rattle.typed_expr.specs.YieldsInside.{facts_of}
 use Rattle.ar_meaning.specs.Found.{IsAnswer}
 use Rattle.gts_core.specs.declared.system.Variable.{Variable}
@@ -18,9 +18,9 @@ pub record AreDomains (p : GtsParts) (count : ℕ) (rows : Rows) : Type 0 where
       → r.items ≡ values_of x.domain
 
 -- what a test says of each system of whose variables these are the domains
-abbrev pub Says : Rows → (GtsParts → Type 0) → Bool → Type 0
-Says rows P b = (p : GtsParts) → AreDomains p (length p.variables.items) rows → IsAnswer b (P p)
+abbrev pub TestSays : Rows → (GtsParts → Type 0) → Bool → Type 0
+TestSays rows P b = (p : GtsParts) → AreDomains p (length p.variables.items) rows → IsAnswer b (P p)
 
 -- the facts where each variable has the values of its row
 abbrev pub RowFacts : Rows → VarId → Value → Type 0
-RowFacts rows = facts_of (λ (x : VarId). row_at rows x.n)
+RowFacts rows = facts_of (λ (x : VarId). known_row_at rows x.n)

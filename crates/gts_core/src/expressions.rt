@@ -1,7 +1,7 @@
 //! The text of expressions.
 
 ghost use Rattle.std.specs.Prelude.{true, ◌++◌, codes, map};
-ghost use Rattle.ar_io.specs.WritingInside.{Writes};
+ghost use Rattle.ar_io.specs.Handing.{Writes};
 ghost use Rattle.std.specs.List.{concat};
 ghost use Rattle.ar_base.specs.Texts.{separated};
 ghost use Rattle.gts_core.specs.Printed.{expr_text, summed, case_form, cases_form};

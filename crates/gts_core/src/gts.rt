@@ -1,7 +1,7 @@
 //! Flat systems.
 
 ghost use Rattle.std.specs.Prelude.{◌≡◌};
-ghost use Rattle.ar_io.specs.WritingInside.{Writes};
+ghost use Rattle.ar_io.specs.Handing.{Writes};
 ghost use Rattle.gts_core.specs.Printed.{flat_text};
 ghost use Rattle.gts_core.specs.Sound.{IsSound};
 

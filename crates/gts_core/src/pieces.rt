@@ -1,7 +1,7 @@
 //! Pieces of a text that go to a sink one behind the other.
 
 ghost use Rattle.std.specs.Prelude.{◌≡◌, if◌then◌else◌, slice_get};
-ghost use Rattle.ar_io.specs.WritingInside.{Writes};
+ghost use Rattle.ar_io.specs.Handing.{Writes};
 ghost use Rattle.ar_base.specs.Texts.{text_at};
 ghost use Rattle.ar_meaning.specs.ValueTexts.{value_text};
 ghost use Rattle.gts_core.specs.Printed.{event_path, path_at, sign, relation_text};

@@ -2,7 +2,7 @@
 
 ghost use Rattle.std.specs.Prelude.{true, ◌<◌, ◌^◌, length, codes, map, slice_get};
 ghost use Rattle.ar_base.specs.Numbers.{WayId};
-ghost use Rattle.ar_io.specs.WritingInside.{Writes};
+ghost use Rattle.ar_io.specs.Handing.{Writes};
 ghost use Rattle.std.specs.List.{concat};
 ghost use Rattle.ar_base.specs.Texts.{text_at, separated};
 ghost use Rattle.gts_core.specs.Printed.{domain_text, flat_variable_line, condition_text, set_text, action_text, event_path, label_of, label_found, part_text, body_text, line_found, event_lines, assert_lines, flat_observer_line};

@@ -3,7 +3,7 @@
 ghost use Rattle.std.specs.Prelude.{◌≡◌, [], true};
 ghost use Rattle.std.specs.List.{list_all};
 ghost use Rattle.typed_expr.specs.Kinds.{kind_of};
-ghost use Rattle.gts_core.specs.Readings.{value_at, values_at, value_in, is_met};
+ghost use Rattle.gts_core.specs.Readings.{valuation_at, valuation_values, value_in, is_met};
 
 use ar_base::VarId;
 use domains::Value;
@@ -11,7 +11,7 @@ use typed_expr::{Env, Expr, ValueKind, eval_total, kind_of};
 
 /// The value at a place of a list; false past its end. Takes no memory.
 pub fn value_at(values: &[Value], place: usize) -> Value
-    ensures { result ≡ value_at values.now place }
+    ensures { result ≡ valuation_at values.now place }
 {
     match values.get(place) {
         Some(value) => *value,
@@ -27,11 +27,11 @@ pub struct Assigned<'a> {
 }
 
 impl Env<VarId> for Assigned<'_> {
-    ghost value_at = { λ e x. value_at e.values.now x.n };
+    ghost value_at = { λ e x. valuation_at e.values.now x.n };
 
-    ghost facts_at = { λ e x. values_at e.values.now x.n };
+    ghost facts_at = { λ e x. valuation_values e.values.now x.n };
 
-    ghost kind_at = { λ e x. kind_of (value_at e.values.now x.n) };
+    ghost kind_at = { λ e x. kind_of (valuation_at e.values.now x.n) };
 
     fn value(&self, v: &VarId) -> Value {
         value_at(self.values, v.n as usize)

@@ -22,13 +22,13 @@ pub struct Domains {
 
 impl Env<VarId> for Domains {
     ghost use Rattle.typed_expr.specs.Kinds.{kind_of};
-    ghost use Rattle.typed_expr.specs.Rows.{first_of, row_at};
+    ghost use Rattle.typed_expr.specs.Rows.{first_of_row, known_row_at};
 
-    ghost value_at = { λ t x. first_of (row_at t.rows.items x.n) };
+    ghost value_at = { λ t x. first_of_row (known_row_at t.rows.items x.n) };
 
-    ghost facts_at = { λ t x. row_at t.rows.items x.n };
+    ghost facts_at = { λ t x. known_row_at t.rows.items x.n };
 
-    ghost kind_at = { λ t x. kind_of (first_of (row_at t.rows.items x.n)) };
+    ghost kind_at = { λ t x. kind_of (first_of_row (known_row_at t.rows.items x.n)) };
 
     fn value(&self, v: &VarId) -> Value {
         first_of(self.facts(v))

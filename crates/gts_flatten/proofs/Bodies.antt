@@ -15,7 +15,7 @@ use Rattle.gts_core.specs.declared.system.WayBody.TheVariants.{Local, Sync}
 use Rattle.sync_expand.specs.declared.plans.PlanBody.{PlanBody}
 use Rattle.sync_expand.specs.declared.plans.PlanBody.TheVariants as planned
 use Rattle.gts_flatten.specs.Making.{IsTransitionOf, transition, IsTransitionAt, IsMadeOf, acts, joins}
-use Rattle.gts_flatten.specs.Placing.{HasTransition, IsDeclared}
+use Rattle.gts_flatten.specs.Placing.{HasTransition, IsPlanDeclared}
 use Rattle.gts_flatten.specs.Placing as placed
 
 -- what stands at a place is what is read there, whatever is read where nothing stands
@@ -42,10 +42,10 @@ transition_at events event place d w guard copy action assigns s t f c a =
 
 -- a planned transition is there
 pub planned_there : (events : List DeclaredEvent) (event place : ℕ) (p : PlanBody) → p ≡ planned.Local place
-    → IsDeclared events event p → HasTransition events event place
-planned_there events event place p e h = by (subst (λ (q : PlanBody). IsDeclared events event q) e h)
+    → IsPlanDeclared events event p → HasTransition events event place
+planned_there events event place p e h = by (subst (λ (q : PlanBody). IsPlanDeclared events event q) e h)
   where
-    by : IsDeclared events event (planned.Local place) → HasTransition events event place
+    by : IsPlanDeclared events event (planned.Local place) → HasTransition events event place
     by (placed.acts t) = t
 
 -- the body of a planned transition

@@ -21,7 +21,7 @@ use Rattle.sync_expand.proofs.Choosing.{choices_length}
 use Rattle.sync_expand.proofs.DeclaredLemmas.{declared_key, declared_length}
 use Rattle.sync_expand.proofs.KnownLemmas.{first_within, first_below}
 use Rattle.gts_flatten.specs.Making.{IsMadeEvent}
-use Rattle.gts_flatten.specs.Placing.{IsRun}
+use Rattle.gts_flatten.specs.Placing.{IsWayRun}
 use Rattle.gts_flatten.proofs.Runs.{AreLong, planned_long, placed_at}
 
 -- as many bodies as ways are counted
@@ -88,7 +88,7 @@ module _ (counts : List ℕ) (declared : List DeclaredEvent) (plan : List WayPla
 
   -- the run of an event is all of its ways
   pub run_whole : (n first : ℕ) (ids : List WayId) → n < length declared → first ≡ first_of counts n
-      → IsRun plan n first ids → length ids ≡ slice_index counts n
+      → IsWayRun plan n first ids → length ids ≡ slice_index counts n
   run_whole n first ids l f r = elim (cases_lt (length ids) (slice_index counts n)) [
     | inl a ↦ absurd (too_few a)
     | inr a ↦ elim (cases_lt (slice_index counts n) (length ids))
@@ -140,14 +140,14 @@ module _ (counts : List ℕ) (declared : List DeclaredEvent) (plan : List WayPla
 
   -- the next event begins where this one ends
   pub first_after : (n first : ℕ) (ids : List WayId) → n < length declared → first ≡ first_of counts n
-      → IsRun plan n first ids → first + length ids ≡ first_of counts (n + 1)
+      → IsWayRun plan n first ids → first + length ids ≡ first_of counts (n + 1)
   first_after n first ids l f r =
       let w = run_whole n first ids l f r in
       let b = first_within counts n (let a = are.long in let d = declared_length 0 declared in omega (arith, a, d, l)) in
       omega (arith, w, b, f)
 
   pub run_ways : (n first : ℕ) (ids : List WayId) → n < length declared → first ≡ first_of counts n
-      → IsRun plan n first ids → map (λ (w : WayId). w.n) ids ≡ ways_at counts n
+      → IsWayRun plan n first ids → map (λ (w : WayId). w.n) ids ≡ ways_at counts n
   run_ways n first ids l f r = r.are ∙ (ap (λ (a : ℕ). range_with_len a (length ids)) f
       ∙ ap (range_with_len (first_of counts n)) (run_whole n first ids l f r))
 

@@ -18,7 +18,7 @@ use Rattle.sync_expand.specs.declared.plans.WayPlan.{WayPlan}
 use Rattle.sync_expand.proofs.ByNumber.{stands_by}
 use Rattle.sync_expand.proofs.DeclaredLemmas.{declared_back, declared_key}
 use Rattle.sync_expand.proofs.Meaning.{plan_resolved}
-use Rattle.gts_flatten.specs.Placing.{AreDeclared, HasTransition, IsDeclared, acts, joins}
+use Rattle.gts_flatten.specs.Placing.{AreDeclared, HasTransition, IsPlanDeclared, acts, joins}
 
 module _ (events : List DeclaredEvent) where
   transition_there : (e k : ℕ) (l : Transition ℕ) (d : EventDeclaration (Transition ℕ) ℕ)
@@ -36,7 +36,7 @@ module _ (events : List DeclaredEvent) where
       by x t (declared.Sync parts at) u i = absurd (cc)
 
   body_declared : (e : ℕ) (pb : PlanBody) (x : PlannedWay) (body : Body (Transition ℕ)) → x.body ≡ planned_body pb
-      → x.event ≡ e → IsResolved (declared_from 0 events) x body → IsDeclared events e pb
+      → x.event ≡ e → IsResolved (declared_from 0 events) x body → IsPlanDeclared events e pb
   body_declared e (planned.Local place) x body i j (plans.acts {k = k} {d = d} {l = l} b s m) =
       let both : Acts k ≡ Acts place = sym b ∙ i in
       let one : k ≡ place = cc in

@@ -12,7 +12,7 @@ use Rattle.sync_expand.specs.Plans.{PlannedWay, first_of, bodies_by, numbered_fr
 use Rattle.sync_expand.specs.declared.plans.WayPlan.{WayPlan}
 use Rattle.sync_expand.proofs.Adding.{numbered_length}
 use Rattle.sync_expand.proofs.WaysLemmas.{map_join}
-use Rattle.gts_flatten.specs.Placing.{IsRun}
+use Rattle.gts_flatten.specs.Placing.{IsWayRun}
 
 -- one number more
 range_more : (a n : ℕ) → range_with_len a (suc n) ≡ range_with_len a n ++ (a + n) ∷ []
@@ -62,7 +62,7 @@ module _ (plan : List WayPlan) (event first : ℕ) where
 
   ends : (number : ℕ) (numbers : List WayId) → RunTo plan event first number numbers
       → (first ≤ length plan → number ≤ length plan) → ((w : WayPlan) → Stands plan number w → w.event.n ≡ event → ⊥)
-      → IsRun plan event first numbers
+      → IsWayRun plan event first numbers
   ends number numbers r within next = record {
     are = r.are;
     within = λ l. let h = r.here in let k = within l in omega (arith, h, k);
@@ -71,11 +71,11 @@ module _ (plan : List WayPlan) (event first : ℕ) where
   }
 
   pub run_end : (number : ℕ) (numbers : List WayId) → RunTo plan event first number numbers → length plan ≤ number
-      → (first ≤ length plan → number ≤ length plan) → IsRun plan event first numbers
+      → (first ≤ length plan → number ≤ length plan) → IsWayRun plan event first numbers
   run_end number numbers r l within = ends number numbers r within (λ w s f. let b = stands_within plan number w s in absurd (omega (arith, b, l)))
 
   pub run_break : (number : ℕ) (numbers : List WayId) (w : WayPlan) → RunTo plan event first number numbers
-      → number < length plan → ((get_or plan number w).event.n ≡ event → ⊥) → IsRun plan event first numbers
+      → number < length plan → ((get_or plan number w).event.n ≡ event → ⊥) → IsWayRun plan event first numbers
   run_break number numbers w r l other =
       ends number numbers r (λ a. omega (arith, l))
       (λ x s f. other (ap (λ (y : WayPlan). y.event.n)

@@ -30,7 +30,7 @@ use Rattle.gts_core.specs.declared.system.Variable.{Variable}
 use Rattle.gts_core.specs.declared.system.Way.{Way}
 use Rattle.gts_core.specs.declared.system.WayBody.{WayBody}
 use Rattle.gts_core.specs.declared.system.WayBody.TheVariants.{Local, Sync}
-use Rattle.source_meaning.specs.SoundBound.{IsSoundBound, IsOver}
+use Rattle.source_meaning.specs.SoundBound.{IsSoundBound, IsOverBound}
 use Rattle.source_meaning.specs.declared.bound.Bound.{Bound}
 use Rattle.sync_expand.specs.Counts.{AreCounts}
 use Rattle.sync_expand.specs.Expanding.{AreWays}
@@ -94,7 +94,7 @@ module _ (b : Bound) (ways : List (List (SystemWay ℕ))) (are : AreWays (declar
       observers = p.observers;
     }
 
-    is_over : IsOver b over
+    is_over : IsOverBound b over
     is_over = record { symbols = refl; units = refl; variables = refl }
 
     symbols_long : length p.symbols.items ≡ length over.symbols.items

@@ -33,7 +33,7 @@ use Rattle.source_meaning.specs.SoundBound.{IsSoundBound}
 use Rattle.source_meaning.specs.Systems.{Declarations, AreOf, HasDeclarations}
 use Rattle.source_meaning.proofs.Different.{things_different}
 use Rattle.source_meaning.specs.declared.bound.Bound.{Bound}
-use Rattle.sync_expand.specs.Expanding.{AreWays, AreExpandable, Expands, have}
+use Rattle.sync_expand.specs.Expanding.{AreWays, AreExpandable, ExpandsWays, have}
 use Rattle.sync_expand.specs.Counting.{most_ways, way_parts}
 use Rattle.gts_flatten.specs.Bounds.{IsSystemOf}
 use Rattle.gts_flatten.specs.Elaborating.{Elaborated, Flattens, HasSystem, has, most_ways_counted, way_parts_counted, nodes_counted}
@@ -136,7 +136,7 @@ module _ (d : Declarations) (b : Bound) (from : IsBoundFrom d b)
     }
 
   -- a refusal of the expansion
-  pub refused : (r : RuleFault) → Expands b.events.items (Err r) → Flattens d (Err r)
+  pub refused : (r : RuleFault) → ExpandsWays b.events.items (Err r) → Flattens d (Err r)
   refused r (refuses (broken k)) = refuses (broken (broken_in_source d b from different _ _ k))
   refused r (passes e (kept k) (refuses h)) = elim h [ ]
   refused r (passes e (kept k) (passes ways (have are) (refuses (passes_it l)))) =
@@ -149,7 +149,7 @@ module _ (d : Declarations) (b : Bound) (from : IsBoundFrom d b)
       (passes (elaborated m) (has_system m)
       (passes (elaborated m) (fits (omega (arith, l, i))) (refuses (passes_it (omega (arith, n, j))))))
 
-  pub refused_told : (t : Option RuleFault) → IsRefusal (Expands b.events.items) t → IsRefusal (Flattens d) t
+  pub refused_told : (t : Option RuleFault) → IsRefusal (ExpandsWays b.events.items) t → IsRefusal (Flattens d) t
   refused_told (Some r) h = refused r h
   refused_told None h = tt
 
@@ -161,7 +161,7 @@ module _ (d : Declarations) (b : Bound) (from : IsBoundFrom d b)
     pub stage : (answer : Result Elaborated RuleFault) → Fits ExpressionNodes nodes_counted (elaborated meant) answer
         → Flattens d answer
 
-  pub passed : (ways : List (List (Way ℕ))) → Expands b.events.items (Ok ways) → Passed ways
+  pub passed : (ways : List (List (Way ℕ))) → ExpandsWays b.events.items (Ok ways) → Passed ways
   passed ways (passes e (kept k) (passes w (have are) (passes v (fits l) (fits n)))) =
       let m = meant ways are in let i = most m in let j = parts m in
       record {
@@ -196,7 +196,7 @@ module _ (d : Declarations) (b : Bound) (from : IsBoundFrom d b)
 -- Without declarations
 
 -- the ways that an expansion within the limits gives
-pub ways_of : (events : List DeclaredEvent) (ways : List (List (Way ℕ))) → Expands events (Ok ways)
+pub ways_of : (events : List DeclaredEvent) (ways : List (List (Way ℕ))) → ExpandsWays events (Ok ways)
     → AreWays (declared_from 0 events) ways × (most_ways ways ≤ 256)
 ways_of events ways (passes e (kept k) (passes w (have are) (passes v (fits l) (fits n)))) = (are, l)
 

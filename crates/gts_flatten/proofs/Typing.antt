@@ -8,7 +8,7 @@ use Rattle.domains.specs.declared.Value.{Value}
 use Rattle.domains.specs.declared.Value.TheVariants as value
 use Rattle.typed_expr.specs.Kinds.{HasKind}
 use Rattle.typed_expr.specs.Mentions.{Mentions}
-use Rattle.typed_expr.specs.PairsInside.{turned}
+use Rattle.typed_expr.specs.PairsInside.{turned_pairs}
 use Rattle.typed_expr.specs.Possible.{IsSubexpression}
 use Rattle.typed_expr.specs.Renames.{Renames}
 use Rattle.typed_expr.specs.Renames as r
@@ -66,14 +66,14 @@ module _ (p : GtsParts) where
   pub by_number : (e : Expr VarId) (k : ValueKind) → IsTyped p e k → IsTypedBy p (numbered e) k
   by_number e k t = record {
     typed = typed_kind p e k t;
-    variables = λ n m. let o = mentions_carry (turned IsNumber) n m (renames_turned IsNumber (renames_numbered e)) in
+    variables = λ n m. let o = mentions_carry (turned_pairs IsNumber) n m (renames_turned IsNumber (renames_numbered e)) in
         subst (λ (z : ℕ). z < length p.variables.items) o.related (t.variables o.other o.stands);
-    names = λ v h. t.symbols v (constant_there (turned IsNumber) v h (renames_turned IsNumber (renames_numbered e)));
+    names = λ v h. t.symbols v (constant_there (turned_pairs IsNumber) v h (renames_turned IsNumber (renames_numbered e)));
   }
 
   pub by_variable : (e : Expr VarId) (k : ValueKind) → IsTypedBy p (numbered e) k → IsTyped p e k
   by_variable e k t = record {
-    typed = kind_renamed ℕ VarId (kind_by_number p) (variable_kind_at p) (turned IsNumber)
+    typed = kind_renamed ℕ VarId (kind_by_number p) (variable_kind_at p) (turned_pairs IsNumber)
         (λ n x j. sym (ap (kind_by_number p) j)) t.typed (renames_turned IsNumber (renames_numbered e));
     variables = λ x m. let o = mentions_carry IsNumber x m (renames_numbered e) in subst (λ (z : ℕ). z < length p.variables.items) (sym o.related) (t.variables o.other o.stands);
     symbols = λ v h. t.names v (constant_there IsNumber v h (renames_numbered e));
@@ -174,9 +174,9 @@ module _ (q p : GtsParts) (names_long : length p.symbols.items ≡ length q.symb
   moved e f k t h = record {
     typed = kind_renamed ℕ ℕ (kind_by_number q) (kind_by_number p) same
         (λ m n j. found_kind copied m ∙ ap (kind_by_number p) j) t.typed h;
-    variables = λ n m. let o = mentions_carry (turned same) n m (renames_turned same h) in
+    variables = λ n m. let o = mentions_carry (turned_pairs same) n m (renames_turned same h) in
         let b = t.variables o.other o.stands in let l = along_length q.variables.items p.variables.items copied in let j : o.other ≡ n = o.related in omega (arith, b, l, j);
-    names = λ v m. named v (t.names v (constant_there (turned same) v m (renames_turned same h)));
+    names = λ v m. named v (t.names v (constant_there (turned_pairs same) v m (renames_turned same h)));
   }
 
   -- a copy of a typed expression

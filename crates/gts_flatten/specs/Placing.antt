@@ -21,16 +21,16 @@ pub record HasTransition (events : List DeclaredEvent) (event place : ℕ) : Typ
   pub there : Stands declared.ways.items place (Local guard action)
 
 -- what a planned way of the event is made of is declared: a transition stands at its place
-pub data IsDeclared (events : List DeclaredEvent) (event : ℕ) : PlanBody → Type 0 where
-  acts : {place : ℕ} → HasTransition events event place → IsDeclared events event (planned.Local place)
-  joins : {parts : Vec (Bool × WayId) Global} → IsDeclared events event (planned.Sync parts)
+pub data IsPlanDeclared (events : List DeclaredEvent) (event : ℕ) : PlanBody → Type 0 where
+  acts : {place : ℕ} → HasTransition events event place → IsPlanDeclared events event (planned.Local place)
+  joins : {parts : Vec (Bool × WayId) Global} → IsPlanDeclared events event (planned.Sync parts)
 
 -- the same of all planned ways
 pub record AreDeclared (events : List DeclaredEvent) (plan : List WayPlan) : Type 0 where
-  pub each : (n : ℕ) (w : WayPlan) → Stands plan n w → IsDeclared events w.event.n w.body
+  pub each : (n : ℕ) (w : WayPlan) → Stands plan n w → IsPlanDeclared events w.event.n w.body
 
 -- these are the numbers from the first on of ways of the event, and the next way is none of it
-pub record IsRun (plan : List WayPlan) (event first : ℕ) (numbers : List WayId) : Type 0 where
+pub record IsWayRun (plan : List WayPlan) (event first : ℕ) (numbers : List WayId) : Type 0 where
   pub are : map (λ (w : WayId). w.n) numbers ≡ range_with_len first (length numbers)
   pub within : first ≤ length plan → first + length numbers ≤ length plan
   pub own : (n : ℕ) (w : WayPlan) → first ≤ n → n < first + length numbers → Stands plan n w → w.event.n ≡ event

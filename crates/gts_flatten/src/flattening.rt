@@ -27,6 +27,23 @@ use source_meaning::Bound;
 use std::alloc::Global;
 use sync_expand::{WayPlan, ways};
 
+/// The flat system of bound forms, which are to be sound: each synchronisation becomes its ways, and each instruction
+/// its assignments with their conditions from the outermost inward. Ways are numbered event by event.
+///
+/// Refused with rule L14, at the earliest place where it is broken; then with the limit `ways`, `way parts` or
+/// `expression nodes` that is passed, in this order.
+pub fn flatten(alloc: Global, bound: &Bound) -> Result<Gts, RuleFault>
+    requires { IsSoundBound bound.now }
+    ensures { (m : RootedModel) (units : List UnitPath) (d : Declarations) → KeepsTextRules m
+        → AreUnits m units
+        → AreOf m units d → IsBoundFrom d bound.now → Meets Flattens IsFlat d result }
+{
+    let plan = ways(alloc, &bound.events)?;
+    fit_nodes(&bound.events, &bound.assertions, &bound.observers)?;
+    let parts = parts_of(alloc, bound, &plan)?;
+    Ok(Gts::new(parts))
+}
+
 // The parts of the flat system, with ways as they are planned.
 fn parts_of(alloc: Global, bound: &Bound, plan: &[WayPlan]) -> Result<GtsParts, Memory>
     requires events { length bound.now.events.items < 2 ^ 32 }
@@ -52,21 +69,4 @@ fn parts_of(alloc: Global, bound: &Bound, plan: &[WayPlan]) -> Result<GtsParts, 
         assigns,
         observers,
     })
-}
-
-/// The flat system of bound forms, which are to be sound: each synchronisation becomes its ways, and each instruction
-/// its assignments with their conditions from the outermost inward. Ways are numbered event by event.
-///
-/// Refused with rule L14, at the earliest place where it is broken; then with the limit `ways`, `way parts` or
-/// `expression nodes` that is passed, in this order.
-pub fn flatten(alloc: Global, bound: &Bound) -> Result<Gts, RuleFault>
-    requires { IsSoundBound bound.now }
-    ensures { (m : RootedModel) (units : List UnitPath) (d : Declarations) → KeepsTextRules m
-        → AreUnits m units
-        → AreOf m units d → IsBoundFrom d bound.now → Meets Flattens IsFlat d result }
-{
-    let plan = ways(alloc, &bound.events)?;
-    fit_nodes(&bound.events, &bound.assertions, &bound.observers)?;
-    let parts = parts_of(alloc, bound, &plan)?;
-    Ok(Gts::new(parts))
 }

@@ -8,7 +8,7 @@ ghost use Rattle.sync_expand.specs.Counts.{AreCounts};
 ghost use Rattle.sync_expand.specs.Plans.{planned_ways};
 ghost use Rattle.sync_expand.specs.Planned.{planned_of};
 ghost use Rattle.gts_flatten.specs.Making.{IsTransitionAt, IsMadeOf, IsMadeWay, AreMadeEvents};
-ghost use Rattle.gts_flatten.specs.Placing.{AreDeclared, HasTransition, IsDeclared, IsRun};
+ghost use Rattle.gts_flatten.specs.Placing.{AreDeclared, HasTransition, IsPlanDeclared, IsWayRun};
 
 use ar_base::{EventId, Memory, WayId};
 use gts_core::{
@@ -16,6 +16,27 @@ use gts_core::{
 };
 use std::alloc::Global;
 use sync_expand::{PlanBody, WayPlan};
+
+/// The planned ways, in their order.
+pub(crate) fn ways_of(
+    alloc: Global,
+    events: &[DeclaredEvent],
+    plan: &[WayPlan],
+) -> Result<Vec<Way>, Memory>
+    requires { AreDeclared events.now plan.now }
+    ensures { IfOk result (λ v. Along (IsMadeWay events.now) plan.now v.items) }
+{
+    let mut ways = Vec::new(alloc);
+    for planned in plan {
+        let body = body_of(alloc, events, planned.event, &planned.body)?;
+        ways.push(Way {
+            event: planned.event,
+            number: planned.number,
+            body,
+        })?;
+    }
+    Ok(ways)
+}
 
 // The body of the transition at this place of an event.
 fn transition(
@@ -44,34 +65,13 @@ fn body_of(
     event: EventId,
     body: &PlanBody,
 ) -> Result<WayBody, Memory>
-    requires { IsDeclared events.now event.n body.now }
+    requires { IsPlanDeclared events.now event.n body.now }
     ensures { IfOk result (IsMadeOf events.now event.n body.now) }
 {
     match body {
         PlanBody::Local(place) => transition(alloc, events, event, *place),
         PlanBody::Sync(parts) => Ok(WayBody::Sync(Vec::from_slice(alloc, parts)?)),
     }
-}
-
-/// The planned ways, in their order.
-pub(crate) fn ways_of(
-    alloc: Global,
-    events: &[DeclaredEvent],
-    plan: &[WayPlan],
-) -> Result<Vec<Way>, Memory>
-    requires { AreDeclared events.now plan.now }
-    ensures { IfOk result (λ v. Along (IsMadeWay events.now) plan.now v.items) }
-{
-    let mut ways = Vec::new(alloc);
-    for planned in plan {
-        let body = body_of(alloc, events, planned.event, &planned.body)?;
-        ways.push(Way {
-            event: planned.event,
-            number: planned.number,
-            body,
-        })?;
-    }
-    Ok(ways)
 }
 
 // The numbers of the planned ways of the event from this one on, up to the first of another event.
@@ -82,7 +82,7 @@ fn run_of(
     first: usize,
 ) -> Result<Vec<WayId>, Memory>
     requires { length plan.now < 2 ^ 32 }
-    ensures { IfOk result (λ v. IsRun plan.now event.n first v.items) }
+    ensures { IfOk result (λ v. IsWayRun plan.now event.n first v.items) }
 {
     let mut numbers = Vec::new(alloc);
     for number in first..plan.len() {

@@ -17,7 +17,7 @@ use Rattle.hierarchy.specs.Units.{UnitPath, Thing, name_at, kind_at, start_of, n
 use Rattle.hierarchy.specs.Walks.{Reaches, NameLeads, NamesLead, IsUnitAt, IsThingAt, absent, on, arrives}
 use Rattle.hierarchy.specs.WalksInside.{LeadsFrom}
 use Rattle.hierarchy.specs.Listing.{AreUnits, unit, is_inner, things_in}
-use Rattle.hierarchy.specs.Tie.{IsOwner, of_main, of_unit, IsUnitNode, is_alias, entry_in, IsTreeOf, AnswersUnit, AnswersThing, IsNode}
+use Rattle.hierarchy.specs.Tie.{IsOwner, of_main, of_unit, IsUnitNode, is_alias, entry_in, IsTreeOf, AnswersUnit, AnswersThing, IsThingNode}
 use Rattle.hierarchy.specs.Finding.{unit_number, StartsAt, IsStep, FindsNode, HasOwner}
 use Rattle.hierarchy.specs.declared.tree.UnitNode.{UnitNode}
 use Rattle.hierarchy.specs.declared.tree.MemNode.{MemNode}
@@ -144,7 +144,7 @@ module _ {m : RootedModel} {units : List UnitPath} (k : KeepsTextRules m) (are :
   all_things = flat_map (things_in test m) units
 
   module _ {A : Type 0} (node : A → MemNode) (IsIt : Thing → A → Type 0)
-      (is_node : (t : Thing) (d : A) → IsIt t d → (g : NamedMember) × IsNode m units t g (node d)) (nodes : List A)
+      (is_node : (t : Thing) (d : A) → IsIt t d → (g : NamedMember) × IsThingNode m units t g (node d)) (nodes : List A)
       (along : Along IsIt all_things nodes) where
     -- the nodes go by units
     pub nodes_rise : IsNonDecreasingBy (λ d. (node d).unit.n) nodes

@@ -29,8 +29,8 @@ abbrev pub entry_name : NameId × UnitId → ℕ
 entry_name e = e.0.n
 
 -- the answer is the unit under the name x, where the entries are in the order of their names
-abbrev pub IsEntry : List (NameId × UnitId) → ℕ → Option UnitId → Type 0
-IsEntry entries x answer = IsNonDecreasingBy entry_name entries → unit_number answer ≡ entry_in entries x
+abbrev pub IsSortedEntry : List (NameId × UnitId) → ℕ → Option UnitId → Type 0
+IsSortedEntry entries x answer = IsNonDecreasingBy entry_name entries → unit_number answer ≡ entry_in entries x
 
 -- the answer is the unit under the name x among the inner units and then among the aliases
 abbrev pub IsStep : UnitNode → ℕ → Option UnitId → Type 0

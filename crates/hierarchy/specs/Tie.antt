@@ -119,7 +119,7 @@ pub record HasAttribute (m : RootedModel) (units : List UnitPath) (t : Thing) (b
   pub is : IsAttribute units attribute b
 
 -- the node is that of the thing, which is given so
-pub record IsNode (m : RootedModel) (units : List UnitPath) (t : Thing) (g : NamedMember) (d : MemNode) : Type 0 where
+pub record IsThingNode (m : RootedModel) (units : List UnitPath) (t : Thing) (g : NamedMember) (d : MemNode) : Type 0 where
   pub unit : Stands units d.unit.n t.unit
   pub name : d.name.n ≡ t.name
   pub is : name_at m t.unit t.name ≡ Some g
@@ -128,12 +128,12 @@ pub record IsNode (m : RootedModel) (units : List UnitPath) (t : Thing) (g : Nam
 -- the same of an event or an observer
 pub record IsPlainNode (m : RootedModel) (units : List UnitPath) (t : Thing) (d : MemNode) : Type 0 where
   pub given : NamedMember
-  pub node : IsNode m units t given d
+  pub node : IsThingNode m units t given d
 
 -- the node is that of the variable
 pub record IsVariableNode (m : RootedModel) (units : List UnitPath) (t : Thing) (d : VarNode) : Type 0 where
   pub given : NamedMember
-  pub node : IsNode m units t given d.node
+  pub node : IsThingNode m units t given d.node
   pub type : TypeForm
   pub settings : List Setting
   pub is : given.kind ≡ Variable type settings
@@ -156,7 +156,7 @@ HasAttributeOf m units t what b = HasAttribute m units t b
 -- the node is that of the parameter
 pub record IsParameterNode (m : RootedModel) (units : List UnitPath) (t : Thing) (d : ParNode) : Type 0 where
   pub given : NamedMember
-  pub node : IsNode m units t given d.node
+  pub node : IsThingNode m units t given d.node
   pub domain : HasParameterDomain m.declared given.kind d.domain
   pub value : HasAttributeOf m units t given.kind d.value
 

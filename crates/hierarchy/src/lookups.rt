@@ -10,15 +10,31 @@ ghost use Rattle.hierarchy.specs.Units.{UnitPath, start_of, numbers};
 ghost use Rattle.hierarchy.specs.Walks.{is_variable, is_parameter, is_event, is_observer};
 ghost use Rattle.hierarchy.specs.Listing.{variables, parameters, events, observers};
 ghost use Rattle.hierarchy.specs.Tie.{IsTreeOf, AnswersUnit, AnswersThing};
-ghost use Rattle.hierarchy.specs.Finding.{unit_number, StartsAt, IsEntry, IsStep, FindsNode, FindsOwner, IsSomeTree};
+ghost use Rattle.hierarchy.specs.Finding.{unit_number, StartsAt, IsSortedEntry, IsStep, FindsNode, FindsOwner, IsSomeTree};
 
 use crate::tree::{MemNode, ParNode, Tree, UnitNode, VarNode};
 use ar_base::{EventId, NameId, UnitId, VarId};
 use ar_syntax::PathStart;
 
+/// The unit that the names lead to, read in the unit `from`: a first word `owner` goes up and `main` to the main block, and
+/// each name to an inner unit or to what an alias names. None exactly where they lead to no unit. Takes no memory.
+pub fn unit_at(tree: &Tree, from: UnitId, first: PathStart, names: &[NameId]) -> Option<UnitId>
+    requires tree { IsSomeTree tree.now }
+    requires in_range { from.n < length tree.now.units.items }
+    ensures { (m : RootedModel) (units : List UnitPath) (u : UnitPath) → IsTreeOf m units tree.now
+        → Stands units from.n u → AnswersUnit m units u first (numbers names.now)
+        (unit_number result) }
+{
+    let mut at = start_at(tree, from, first)?;
+    for name in names {
+        at = step(&tree.units[at.n as usize], *name)?;
+    }
+    Some(at)
+}
+
 // The unit under a name, among entries in the order of their names.
 fn entry(entries: &[(NameId, UnitId)], name: NameId) -> Option<UnitId>
-    ensures { IsEntry entries.now name.n result }
+    ensures { IsSortedEntry entries.now name.n result }
 {
     let at = entries.partition_point(|entry| entry.0.n < name.n);
     match entries.get(at) {
@@ -102,22 +118,6 @@ fn start_at(tree: &Tree, from: UnitId, first: PathStart) -> Option<UnitId>
         PathStart::Owner => tree.units[from.n as usize].owner,
         PathStart::Main => Some(UnitId::new(0)),
     }
-}
-
-/// The unit that the names lead to, read in the unit `from`: a first word `owner` goes up and `main` to the main block, and
-/// each name to an inner unit or to what an alias names. None exactly where they lead to no unit. Takes no memory.
-pub fn unit_at(tree: &Tree, from: UnitId, first: PathStart, names: &[NameId]) -> Option<UnitId>
-    requires tree { IsSomeTree tree.now }
-    requires in_range { from.n < length tree.now.units.items }
-    ensures { (m : RootedModel) (units : List UnitPath) (u : UnitPath) → IsTreeOf m units tree.now
-        → Stands units from.n u → AnswersUnit m units u first (numbers names.now)
-        (unit_number result) }
-{
-    let mut at = start_at(tree, from, first)?;
-    for name in names {
-        at = step(&tree.units[at.n as usize], *name)?;
-    }
-    Some(at)
 }
 
 /// The number of the unit to which all names but the last lead, read in the unit `from`, and the last name. None only

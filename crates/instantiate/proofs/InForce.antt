@@ -9,7 +9,7 @@ use Rattle.hierarchy.specs.Models.{RootedModel}
 use Rattle.hierarchy.specs.Units.{UnitPath, Thing}
 use Rattle.hierarchy.specs.Settings.{TargetWord, Named, Init, Reset, target_of, is_state, is_flow, outermost, target_in, declared_in, in_force, in_force_given, in_force_by}
 use Rattle.hierarchy.specs.Settings as s
-use Rattle.hierarchy.specs.Tie.{IsNode, HasAttribute}
+use Rattle.hierarchy.specs.Tie.{IsThingNode, HasAttribute}
 use Rattle.hierarchy.specs.declared.tree.MemNode.{MemNode}
 use Rattle.hierarchy.specs.declared.tree.Attribute.{Attribute}
 use Rattle.ar_base.proofs.Standing.{one_here}
@@ -25,12 +25,12 @@ use Rattle.unit_rules.specs.Rules.{BreaksForm, declares}
 use Rattle.unit_rules.specs.Typing.{bounds_variables}
 use Rattle.unit_rules.proofs.Sited.{one_flat}
 use Rattle.instantiate.specs.Nodes.{IsNodeSo}
-use Rattle.instantiate.specs.Values.{KeepsDeclarations, declared_type, last_of}
+use Rattle.instantiate.specs.Values.{KeepsDeclarations, declared_type, last_target_word}
 use Rattle.settings_in_force.specs.InForce.{AreAttribute, none, some}
 use Rattle.instantiate.proofs.Named.{IsGivenAt, given_at, DeclaredBy, declares_owned}
 
 module _ (m : RootedModel) (units : List UnitPath) (t : Thing) (g : NamedMember) (d : MemNode)
-    (node : IsNode m units t g d) (words : List TargetWord) (e : target_in g.name g.kind ≡ Some words) where
+    (node : IsThingNode m units t g d) (words : List TargetWord) (e : target_in g.name g.kind ≡ Some words) where
   forced : in_force m t ≡ option_or (outermost m t.unit words) (declared_in t.unit g.site g.kind)
   forced = ap (λ (o : Option NamedMember). in_force_given m t.unit o) node.is
       ∙ ap (λ (o : Option (List TargetWord)). in_force_by m t.unit o (declared_in t.unit g.site g.kind)) e
@@ -71,7 +71,7 @@ module _ (m : RootedModel) (units : List UnitPath) (t : Thing) (g : NamedMember)
 
 -- the site of a node is that of what gives its thing
 pub node_site : {m : RootedModel} {units : List UnitPath} {t : Thing} {g : NamedMember} {d : MemNode}
-    → IsNode m units t g d → site_of (d.source.body, d.source.member) ≡ g.site
+    → IsThingNode m units t g d → site_of (d.source.body, d.source.member) ≡ g.site
 node_site {g = g} {d = d} node =
     ap (λ (n : ℕ). record { body = n; place = d.source.member }) node.source.body
     ∙ ap (λ (n : ℕ). record { body = g.site.body; place = n }) node.source.member
@@ -115,7 +115,7 @@ pub record IsVariableAt (m : RootedModel) (g : NamedMember) : Type 0 where
   pub type_is : declared_type (owned_at m.declared g.site) ≡ Some type
   pub settings_are : settings_of (owned_at m.declared g.site) ≡ settings
   pub bounds : bounds_variables m.declared type ≡ true
-  pub one : HasOne settings (last_of (is_state settings))
+  pub one : HasOne settings (last_target_word (is_state settings))
 
 pub variable_at : (m : RootedModel) (units : List UnitPath) (t : Thing) (d : MemNode)
     (so : IsNodeSo m units is_variable t d) → KeepsDeclarations m units → IsVariableAt m so.given
@@ -136,7 +136,7 @@ variable_at m units t d so kept =
   where
     by : (at : IsGivenAt m t.unit so.given) (w : DeclaredBy m.declared (owned_at m.declared so.given.site) so.given)
         (b : Bool) → is_state w.declares.settings.items ≡ b → (f : Bool) → is_flow w.declares.settings.items ≡ f
-        → HasOne w.declares.settings.items (last_of b)
+        → HasOne w.declares.settings.items (last_target_word b)
     by at w true i f j = state_one w.declares.settings.items i
     by at w false i true j = flow_one w.declares.settings.items j
     by at w false i false j = absurd (kept.kept w.declares.first.1 (record {

@@ -25,7 +25,7 @@ use Rattle.instantiate.specs.Values.{KeepsDeclarations}
 use Rattle.instantiate.specs.Unfolding.{Instantiates, unit_rules, unit_breaks, l8}
 use Rattle.instantiate.specs.MadeTrees.{IsTreeFor}
 use Rattle.instantiate.proofs.Ruled.{rule8}
-use Rattle.instantiate.specs.Settled.{AnswersRules, IsSettled}
+use Rattle.instantiate.specs.Settled.{AnswersUnitRules, IsSettled}
 use Rattle.instantiate.specs.declared.listing.Settled.{Settled}
 
 -- the model with its units
@@ -69,7 +69,7 @@ module _ (m : RootedModel) {X : Type 0} (see : Unfolded → X → Type 0) where
 
     -- the rules refuse
     pub rules_stop : (r : Result X RuleFault) (d e : RuleFault) (x : Unit {0}) → r ≡ Err d → d ≡ e
-        → AnswersLimits {X = Unit {0}} m units (Ok x) → AnswersRules {X = Unit {0}} m units (Err e)
+        → AnswersLimits {X = Unit {0}} m units (Ok x) → AnswersUnitRules {X = Unit {0}} m units (Err e)
         → Meets Instantiates see m r
     rules_stop r d e x i j h k = limits_pass r x h
         (subst (λ (z : Result X RuleFault). Meets (Keeps unit_rules unit_breaks) see (tree m units) z)
@@ -92,7 +92,7 @@ module _ (m : RootedModel) (classes : Classes) (table : IsKeptTable m classes) (
   -- all stages pass
   pub settled : (found : Found) (s : Settled) (x y : Unit {0}) → IsUnfolded m units found → s.outlines ≡ found.outlines
       → AreOutcomes m units s.walks
-      → AnswersLimits {X = Unit {0}} m units (Ok x) → AnswersRules {X = Unit {0}} m units (Ok y)
+      → AnswersLimits {X = Unit {0}} m units (Ok x) → AnswersUnitRules {X = Unit {0}} m units (Ok y)
       → Meets Instantiates (IsSettled classes) m (Ok s)
   settled found s x y u o w h k =
       let few = within (tree m units) h.0 h.1 in

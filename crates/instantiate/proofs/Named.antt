@@ -22,7 +22,7 @@ use Rattle.hierarchy.specs.Settings.{settings_in, settings_of}
 use Rattle.hierarchy.proofs.Apart.{named_back}
 use Rattle.unit_rules.specs.Typing.{bounds_variables}
 use Rattle.unit_rules.proofs.Sited.{flat_one}
-use Rattle.instantiate.specs.Values.{type_in, declared_type}
+use Rattle.instantiate.specs.Values.{type_declared, declared_type}
 
 -- one of the names of a declaration
 pub record IsAllNamed (s : Site) (kind : Option MemberKind) (names : List (NameId × Place)) (g : NamedMember) : Type
@@ -159,7 +159,7 @@ module _ (d : Declared) (s : Site) (g : NamedMember) (v : is_variable g.kind ≡
         form = out-Member m;
         is_form = one_first (out-Member m) [];
         declares = w;
-        type_is = ap type_in w.is;
+        type_is = ap type_declared w.is;
         settings_are = ap settings_in w.is;
       }
   declares_owned (Some (Nested x at b)) h = absurd (no_variable x at _ refl h)

@@ -15,7 +15,7 @@ use Rattle.hierarchy.specs.ModelsInside.{KeepsTextRules, IsRootedTable, sites_ke
 use Rattle.hierarchy.specs.Units.{UnitPath, body_of, names_at, name_at}
 use Rattle.hierarchy.specs.Walks.{thing}
 use Rattle.hierarchy.proofs.Places.{AreApart}
-use Rattle.instantiate.specs.Nodes.{node_at, nodes_of, IsNodeSo}
+use Rattle.instantiate.specs.Nodes.{node_at, nodes_of_members, IsNodeSo}
 
 -- where names are apart, each is looked up as what stands there
 pub named_own : (gs : List NamedMember) → AreApart gs → (i : ℕ) (g : NamedMember) → Stands gs i g
@@ -88,13 +88,13 @@ module _ (m : RootedModel) (units : List UnitPath) (test : MemberKind → Bool) 
     (there : Stands units unit.n u) where
   members_nodes : (gs : List NamedMember) → ((i : ℕ) (g : NamedMember) → Stands gs i g → name_at m u g.name ≡ Some g)
       → Along (IsNodeSo m units test) (map (λ (g : NamedMember). thing u g.name)
-      (filter (λ (g : NamedMember). test g.kind) gs)) (nodes_of unit test gs)
+      (filter (λ (g : NamedMember). test g.kind) gs)) (nodes_of_members unit test gs)
   members_nodes [] own = none
   members_nodes (g ∷ gs) own = by (test g.kind) refl (members_nodes gs (λ i h s. own (suc i) h s))
     where
       by : (b : Bool) → test g.kind ≡ b → Along (IsNodeSo m units test)
           (map (λ (g : NamedMember). thing u g.name) (filter (λ (g : NamedMember). test g.kind) gs))
-          (nodes_of unit test gs)
+          (nodes_of_members unit test gs)
           → Along (IsNodeSo m units test) (map (λ (g : NamedMember). thing u g.name)
           (cond b (g ∷ filter (λ (g : NamedMember). test g.kind) gs)
           (filter (λ (g : NamedMember). test g.kind) gs)))
@@ -115,5 +115,5 @@ module _ (m : RootedModel) (units : List UnitPath) (test : MemberKind → Bool) 
   -- the nodes of what is listed of a unit
   pub unit_nodes : KeepsTextRules m → Along (IsNodeSo m units test)
       (map (λ (g : NamedMember). thing u g.name) (filter (λ (g : NamedMember). test g.kind) (names_at m u)))
-      (nodes_of unit test (names_at m u))
+      (nodes_of_members unit test (names_at m u))
   unit_nodes k = members_nodes (names_at m u) (λ i g s. name_own m k u i g s)

@@ -23,7 +23,7 @@ use Rattle.hierarchy.specs.Walks.{is_parameter}
 use Rattle.hierarchy.specs.Tie.{HasParameterDomain}
 use Rattle.hierarchy.specs.Tie.HasParameterDomain.{domain, integer}
 use Rattle.unit_rules.proofs.Named.{typed_member}
-use Rattle.instantiate.specs.Values.{parameter_in, parameter_type, HasDomainIf, has, every_whole, no_domain}
+use Rattle.instantiate.specs.Values.{parameter_type_in, parameter_type, HasDomainIf, has, every_whole, no_domain}
 use Rattle.instantiate.proofs.Named.{all_one, single_one, given_at}
 
 -- what the type of a member says of the parameter that it gives
@@ -49,7 +49,7 @@ module _ (d : Declared) (s : Site) (g : NamedMember) (v : is_parameter g.kind �
       → ⊥
   no_parameter x at k n h = let e = ap is_parameter (single_one s x at k g h).1 in cc
 
-  parameter_form : (f : MemberForm) → IsOneOf (names_of_form d s f) g → IsParameterSo g (parameter_in f)
+  parameter_form : (f : MemberForm) → IsOneOf (names_of_form d s f) g → IsParameterSo g (parameter_type_in f)
   parameter_form (member.Declare t names settings) h =
       absurd (no_declared d s t.form settings.items g.kind v
       (all_one s (declared_kind d s t.form settings.items) names.items g h).kind_is)
@@ -84,7 +84,7 @@ kept_kind g o (kept k) i = k
 
 -- no parameter has the type of a class
 declared_parameter : {m : RootedModel} → KeepsTextRules m → (s : Site) (w : Member) (f : MemberForm) (x : NameId)
-    → owned_at m.declared s ≡ Some (Plain w) → out-Member w ≡ f → parameter_in f ≡ Some (Some (form.Named x))
+    → owned_at m.declared s ≡ Some (Plain w) → out-Member w ≡ f → parameter_type_in f ≡ Some (Some (form.Named x))
     → domain_named m.declared x.n ≡ None → ⊥
 declared_parameter {m = m} k s w (member.Parameter t y at e) x o i p n =
     let z : t.form ≡ form.Named x = cc in

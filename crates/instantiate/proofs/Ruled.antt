@@ -17,7 +17,7 @@ use Rattle.hierarchy.specs.Walks.{Nothing, Loops}
 use Rattle.unit_rules.specs.Statements.{WalkEnds}
 use Rattle.unit_rules.specs.Rules.{BreaksDeclaration, BreaksSetting}
 use Rattle.instantiate.specs.Unfolding.{BreaksUnitRule, l6, l7, l8, l9, unit_rules}
-use Rattle.instantiate.specs.Settled.{AnswersRules}
+use Rattle.instantiate.specs.Settled.{AnswersUnitRules}
 
 pub rule6 : IsOneOf unit_rules 6
 rule6 = one_first 6 _
@@ -87,10 +87,10 @@ module _ (m : RootedModel) (units : List UnitPath) where
   -- a test that refuses
   pub refuses_test : {X : Type 0} (n : ℕ) (f : Option Place) (x : RuleFault) (r : Result X RuleFault)
       → IsOneOf unit_rules n → KeptBelow n → IsEarliest (BreaksUnitRule m units n) f → Err x ≡ kept_rule n f → r ≡ Err x
-      → AnswersRules m units r
+      → AnswersUnitRules m units r
   refuses_test {X = X} n f x r o k h e i =
       let w = kept_err n f x e in
-      subst (λ (z : Result X RuleFault). AnswersRules m units z) (sym (i ∙ ap Err w.2))
+      subst (λ (z : Result X RuleFault). AnswersUnitRules m units z) (sym (i ∙ ap Err w.2))
       (broken (there_broken w.0 (subst (IsEarliest (BreaksUnitRule m units n)) w.1 h)))
     where
       there_broken : (p : Place) → IsEarliest (BreaksUnitRule m units n) (Some p)
@@ -110,9 +110,9 @@ module _ (m : RootedModel) (units : List UnitPath) where
 
   -- the last test answers for all
   pub last_test : (f : Option Place) (r : Result (Unit {0}) RuleFault) → KeptBelow 9 → IsEarliest (BreaksUnitRule m
-      units 9) f → r ≡ kept_rule 9 f → AnswersRules m units r
+      units 9) f → r ≡ kept_rule 9 f → AnswersUnitRules m units r
   last_test f r k h e = go r e
     where
-      go : (r : Result (Unit {0}) RuleFault) → r ≡ kept_rule 9 f → AnswersRules m units r
+      go : (r : Result (Unit {0}) RuleFault) → r ≡ kept_rule 9 f → AnswersUnitRules m units r
       go (Ok x) e = (record { model = m; units = units }, kept (all_pass (passes_test 9 f x e k h)), refl)
       go (Err x) e = refuses_test {X = Unit {0}} 9 f x (Err x) rule9 k h e refl

@@ -10,7 +10,7 @@ use Rattle.class_table.specs.Members.{Site, NamedMember, MemberKind}
 use Rattle.hierarchy.specs.Models.{RootedModel}
 use Rattle.hierarchy.specs.Units.{UnitPath, Thing}
 use Rattle.hierarchy.specs.Walks.{is_variable, is_parameter, is_event, is_observer}
-use Rattle.hierarchy.specs.Tie.{IsNode}
+use Rattle.hierarchy.specs.Tie.{IsThingNode}
 use Rattle.hierarchy.specs.declared.tree.MemNode.{MemNode}
 use Rattle.unit_rules.specs.Typing.{bounds_variables}
 use Rattle.instantiate.specs.declared.nodes.Listed.{Listed}
@@ -48,14 +48,14 @@ node_at unit g = record {
 }
 
 -- the nodes of those members that pass the test
-abbrev pub nodes_of : UnitId → (MemberKind → Bool) → List NamedMember → List MemNode
-nodes_of unit test gs = map (node_at unit) (filter (λ (g : NamedMember). test g.kind) gs)
+abbrev pub nodes_of_members : UnitId → (MemberKind → Bool) → List NamedMember → List MemNode
+nodes_of_members unit test gs = map (node_at unit) (filter (λ (g : NamedMember). test g.kind) gs)
 
 -- the node is that of the thing, which is given by what passes the test
 pub record IsNodeSo (m : RootedModel) (units : List UnitPath) (test : MemberKind → Bool) (t : Thing)
     (d : MemNode) : Type 0 where
   pub given : NamedMember
-  pub node : IsNode m units t given d
+  pub node : IsThingNode m units t given d
   pub passes : test given.kind ≡ true
 
 -- the node of the name that a member at this site gives

@@ -16,8 +16,8 @@ use Rattle.instantiate.specs.Unfolding.{unit_rules, unit_breaks}
 use Rattle.instantiate.specs.declared.listing.Settled.{Settled}
 
 -- the answer of a call that tests the rules on these units
-abbrev pub AnswersRules : {X : Type 0} → RootedModel → List UnitPath → Result X RuleFault → Type 0
-AnswersRules m units answer = let t : Unfolded = record { model = m; units = units } in Meets (Keeps unit_rules unit_breaks) (λ u x. u ≡ t) t answer
+abbrev pub AnswersUnitRules : {X : Type 0} → RootedModel → List UnitPath → Result X RuleFault → Type 0
+AnswersUnitRules m units answer = let t : Unfolded = record { model = m; units = units } in Meets (Keeps unit_rules unit_breaks) (λ u x. u ≡ t) t answer
 
 -- the outlines and what the names lead to are those of these units, which are within the limits and keep the rules
 pub record IsSettled (classes : Classes) (t : Unfolded) (s : Settled) : Type 0 where

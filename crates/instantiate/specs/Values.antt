@@ -20,26 +20,26 @@ use Rattle.hierarchy.specs.declared.tree.VarNode.{VarNode}
 use Rattle.unit_rules.specs.Rules.{BreaksDeclaration}
 
 -- the type of a declaration
-abbrev pub type_in : MemberForm → Option TypeForm
-type_in (member.Declare t names settings) = Some t.form
-type_in _ = None
+abbrev pub type_declared : MemberForm → Option TypeForm
+type_declared (member.Declare t names settings) = Some t.form
+type_declared _ = None
 
 -- the same of a member that was looked up
 abbrev pub declared_type : Option Owned → Option TypeForm
 declared_type None = None
-declared_type (Some (Plain m)) = type_in (out-Member m)
+declared_type (Some (Plain m)) = type_declared (out-Member m)
 declared_type (Some (Nested x at b)) = None
 
 -- the type of a parameter, which a parameter Real has none of
-abbrev pub parameter_in : MemberForm → Option (Option TypeForm)
-parameter_in (member.Parameter t x at e) = Some (Some t.form)
-parameter_in (member.Kept x at span) = Some None
-parameter_in _ = None
+abbrev pub parameter_type_in : MemberForm → Option (Option TypeForm)
+parameter_type_in (member.Parameter t x at e) = Some (Some t.form)
+parameter_type_in (member.Kept x at span) = Some None
+parameter_type_in _ = None
 
 -- the same of a member that was looked up
 abbrev pub parameter_type : Option Owned → Option (Option TypeForm)
 parameter_type None = None
-parameter_type (Some (Plain m)) = parameter_in (out-Member m)
+parameter_type (Some (Plain m)) = parameter_type_in (out-Member m)
 parameter_type (Some (Nested x at b)) = None
 
 -- the domain of a type, as far as it has one
@@ -53,9 +53,9 @@ pub record KeepsDeclarations (m : RootedModel) (units : List UnitPath) : Type 0 
   pub kept : (p : Place) → BreaksDeclaration m units p → ⊥
 
 -- the last word of the target of a state variable or a flow
-abbrev pub last_of : Bool → TargetWord
-last_of true = Init
-last_of false = Reset
+abbrev pub last_target_word : Bool → TargetWord
+last_target_word true = Init
+last_target_word false = Reset
 
 -- behind these variables the thing's was added
 pub record AddsVariable (m : RootedModel) (units : List UnitPath) (t : Thing) (old new : List VarNode) : Type 0 where

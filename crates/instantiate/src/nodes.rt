@@ -12,7 +12,7 @@ ghost use Rattle.hierarchy.specs.Units.{UnitPath};
 ghost use Rattle.hierarchy.specs.Listing.{things_in};
 ghost use Rattle.hierarchy.specs.Tie.{AreOutlines};
 ghost use Rattle.unit_rules.specs.TypingInside.{KnowsPlaces};
-ghost use Rattle.instantiate.specs.Nodes.{test_of, declares_so, single_of, node_named, nodes_of, names_nodes, IsNodeSo};
+ghost use Rattle.instantiate.specs.Nodes.{test_of, declares_so, single_of, node_named, nodes_of_members, names_nodes, IsNodeSo};
 
 use ar_base::{BodyId, Memory, NameId, Place, UnitId};
 use ar_syntax::{Member, TypeForm};
@@ -28,6 +28,31 @@ pub(crate) enum Listed {
     Parameters,
     Events,
     Observers,
+}
+
+/// The nodes of all things of the kind, by unit and member.
+pub(crate) fn nodes(
+    alloc: Global,
+    classes: &Classes,
+    places: &TypePlaces,
+    outlines: &[Outline],
+    listed: Listed,
+) -> Result<Vec<MemNode>, Memory>
+    requires { length outlines.now < 2 ^ 32 }
+    ensures { (m : RootedModel) (units : List UnitPath)
+        → AreOutlines m units classes.now outlines.now
+        → KnowsPlaces classes.now.types.items places.now
+        → IfOk result (λ v. Along (IsNodeSo m units (test_of listed))
+        (flat_map (things_in (test_of listed) m) units) v.items) }
+{
+    let mut nodes = Vec::new(alloc);
+    for (place, outline) in outlines.iter().enumerate() {
+        let unit = UnitId::new(place as u32);
+        if let Some(body) = classes.bodies.get(outline.body.n as usize) {
+            add_sites(&mut nodes, unit, &body.all, classes, places, listed)?;
+        }
+    }
+    Ok(nodes)
 }
 
 // The node of a member with this name.
@@ -105,7 +130,7 @@ fn add_member(
 ) -> Result<(), Memory>
     ensures { (d : Declared) → HoldsDeclared d classes.now → KnowsPlaces classes.now.types.items places.now
         → OnOk result (nodes.new.items ≡ nodes.old.items
-        ++ nodes_of unit (test_of listed) (names_of d (site_of site) (Some owned.now))) }
+        ++ nodes_of_members unit (test_of listed) (names_of d (site_of site) (Some owned.now))) }
 {
     let member = match owned {
         Owned::Nested(_, _, _) => return Ok(()),
@@ -137,7 +162,7 @@ fn add_sites(
 ) -> Result<(), Memory>
     ensures { (d : Declared) → HoldsDeclared d classes.now → KnowsPlaces classes.now.types.items places.now
         → OnOk result (nodes.new.items ≡ nodes.old.items
-        ++ nodes_of unit (test_of listed) (named_at d (map site_of sites.now))) }
+        ++ nodes_of_members unit (test_of listed) (named_at d (map site_of sites.now))) }
 {
     for site in sites {
         if let Some(owned) = owned_at(&classes.bodies, *site) {
@@ -145,29 +170,4 @@ fn add_sites(
         }
     }
     Ok(())
-}
-
-/// The nodes of all things of the kind, by unit and member.
-pub(crate) fn nodes(
-    alloc: Global,
-    classes: &Classes,
-    places: &TypePlaces,
-    outlines: &[Outline],
-    listed: Listed,
-) -> Result<Vec<MemNode>, Memory>
-    requires { length outlines.now < 2 ^ 32 }
-    ensures { (m : RootedModel) (units : List UnitPath)
-        → AreOutlines m units classes.now outlines.now
-        → KnowsPlaces classes.now.types.items places.now
-        → IfOk result (λ v. Along (IsNodeSo m units (test_of listed))
-        (flat_map (things_in (test_of listed) m) units) v.items) }
-{
-    let mut nodes = Vec::new(alloc);
-    for (place, outline) in outlines.iter().enumerate() {
-        let unit = UnitId::new(place as u32);
-        if let Some(body) = classes.bodies.get(outline.body.n as usize) {
-            add_sites(&mut nodes, unit, &body.all, classes, places, listed)?;
-        }
-    }
-    Ok(nodes)
 }

@@ -25,6 +25,27 @@ use settings_in_force::SettingPlaces;
 use std::alloc::Global;
 use unit_rules::TypePlaces;
 
+/// The parameters of these units, by unit and member, a parameter Real included, whose value has no meaning.
+pub fn parameters(
+    alloc: Global,
+    classes: &Classes,
+    outlines: &[Outline],
+) -> Result<Vec<ParNode>, Memory>
+    requires { length outlines.now < 2 ^ 32 }
+    ensures { (m : RootedModel) (units : List UnitPath)
+        → AreOutlines m units classes.now outlines.now
+        → IfOk result (λ v. Along (IsParameterNode m units) (parameters_of m units) v.items) }
+{
+    let places = TypePlaces::new(alloc, &classes.types)?;
+    let settings = SettingPlaces::new(alloc, classes)?;
+    let nodes = nodes(alloc, classes, &places, outlines, Listed::Parameters)?;
+    let mut parameters = Vec::new(alloc);
+    for node in &nodes {
+        parameters.push(parameter(alloc, classes, &places, &settings, outlines, *node)?)?;
+    }
+    Ok(parameters)
+}
+
 // The type of a member that is a parameter; a parameter Real has none.
 fn type_of(owned: &Owned) -> Option<Option<TypeForm>>
     ensures { result ≡ parameter_type (Some owned.now) }
@@ -91,25 +112,4 @@ fn parameter(
             })
         }
     }
-}
-
-/// The parameters of these units, by unit and member, a parameter Real included, whose value has no meaning.
-pub fn parameters(
-    alloc: Global,
-    classes: &Classes,
-    outlines: &[Outline],
-) -> Result<Vec<ParNode>, Memory>
-    requires { length outlines.now < 2 ^ 32 }
-    ensures { (m : RootedModel) (units : List UnitPath)
-        → AreOutlines m units classes.now outlines.now
-        → IfOk result (λ v. Along (IsParameterNode m units) (parameters_of m units) v.items) }
-{
-    let places = TypePlaces::new(alloc, &classes.types)?;
-    let settings = SettingPlaces::new(alloc, classes)?;
-    let nodes = nodes(alloc, classes, &places, outlines, Listed::Parameters)?;
-    let mut parameters = Vec::new(alloc);
-    for node in &nodes {
-        parameters.push(parameter(alloc, classes, &places, &settings, outlines, *node)?)?;
-    }
-    Ok(parameters)
 }

@@ -5,7 +5,7 @@ ghost use Rattle.hierarchy.specs.Models.{RootedModel};
 ghost use Rattle.hierarchy.specs.Units.{UnitPath};
 ghost use Rattle.hierarchy.specs.Tie.{AreOutlines};
 ghost use Rattle.unit_walks.specs.Settling.{AreOutcomes};
-ghost use Rattle.instantiate.specs.Settled.{AnswersRules};
+ghost use Rattle.instantiate.specs.Settled.{AnswersUnitRules};
 
 use ar_base::{RuleFault, keep};
 use class_table::Classes;
@@ -25,7 +25,7 @@ pub(crate) fn keep_rules(
     requires { length outlines.now ≤ 16384 }
     ensures { (m : RootedModel) (units : List UnitPath)
         → AreOutlines m units classes.now outlines.now
-        → AreOutcomes m units walks.now → AnswersRules m units result }
+        → AreOutcomes m units walks.now → AnswersUnitRules m units result }
 {
     keep(6, first_lost(classes, outlines, walks))?;
     keep(7, first_looping(classes, outlines, walks))?;

@@ -17,6 +17,21 @@ use std::alloc::Global;
 use unit_rules::fit;
 use unit_walks::{settle, units};
 
+/// The tree of the main block of a table that keeps the rules L1 to L5: its units depth first, and
+/// its variables, parameters, events and observers by unit and member, each with the outermost value
+/// in force.
+///
+/// Refused with the first limit that is passed, of `depth` or `units`, `variables`, `events` and
+/// `tree nodes` in this order; then with the least broken rule of L6 to L9, at the earliest place
+/// where it is broken.
+pub fn instantiate(alloc: Global, classes: Classes) -> Result<Tree, RuleFault>
+    ensures { (m : RootedModel) → IsKeptTable m classes → Meets Instantiates IsTreeFor m result }
+{
+    let settled = settled_units(alloc, &classes)?;
+    let tree = tree_of(alloc, classes, &settled)?;
+    Ok(tree)
+}
+
 // The units of the main block, where they are within the limits and keep the rules.
 fn settled_units(alloc: Global, classes: &Classes) -> Result<Settled, RuleFault>
     ensures settled { (m : RootedModel) → IsKeptTable m classes.now
@@ -31,19 +46,4 @@ fn settled_units(alloc: Global, classes: &Classes) -> Result<Settled, RuleFault>
         outlines: unfolded.outlines,
         walks,
     })
-}
-
-/// The tree of the main block of a table that keeps the rules L1 to L5: its units depth first, and
-/// its variables, parameters, events and observers by unit and member, each with the outermost value
-/// in force.
-///
-/// Refused with the first limit that is passed, of `depth` or `units`, `variables`, `events` and
-/// `tree nodes` in this order; then with the least broken rule of L6 to L9, at the earliest place
-/// where it is broken.
-pub fn instantiate(alloc: Global, classes: Classes) -> Result<Tree, RuleFault>
-    ensures { (m : RootedModel) → IsKeptTable m classes → Meets Instantiates IsTreeFor m result }
-{
-    let settled = settled_units(alloc, &classes)?;
-    let tree = tree_of(alloc, classes, &settled)?;
-    Ok(tree)
 }

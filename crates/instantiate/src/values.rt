@@ -7,7 +7,7 @@ ghost use Rattle.hierarchy.specs.Models.{RootedModel};
 ghost use Rattle.hierarchy.specs.Units.{UnitPath, Thing};
 ghost use Rattle.hierarchy.specs.Settings.{target_word_of, target_in, declared_in};
 ghost use Rattle.ar_syntax.specs.declared.expressions.RawExpr.{RawExpr};
-ghost use Rattle.hierarchy.specs.Tie.{IsNode, HasAttribute};
+ghost use Rattle.hierarchy.specs.Tie.{IsThingNode, HasAttribute};
 ghost use Rattle.hierarchy.specs.Tie.{AreOutlines};
 ghost use Rattle.settings_in_force.specs.SettingPlaces.{TellsSettings};
 
@@ -30,7 +30,7 @@ pub(crate) fn value_of(
     ensures { (m : RootedModel) (units : List UnitPath) (classes : Table) (t : Thing)
         (g : NamedMember) (value : RawExpr)
         → AreOutlines m units classes outlines.now → TellsSettings m settings.now
-        → IsNode m units t g node
+        → IsThingNode m units t g node
         → target_in g.name g.kind ≡ Some (map target_word_of target.items)
         → declared_in t.unit g.site g.kind
         ≡ Some (record { unit = t.unit; site = g.site; setting = own; value = value })

@@ -12,7 +12,7 @@ ghost use Rattle.hierarchy.specs.Tie.{AreOutlines};
 ghost use Rattle.unit_rules.specs.TypingInside.{KnowsPlaces};
 ghost use Rattle.instantiate.specs.Nodes.{IsNodeSo};
 ghost use Rattle.settings_in_force.specs.SettingPlaces.{TellsSettings};
-ghost use Rattle.instantiate.specs.Values.{KeepsDeclarations, AddsVariable, last_of};
+ghost use Rattle.instantiate.specs.Values.{KeepsDeclarations, AddsVariable, last_target_word};
 
 use crate::domains_of::domain_of;
 use crate::nodes::{Listed, nodes};
@@ -26,9 +26,40 @@ use settings_in_force::SettingPlaces;
 use std::alloc::Global;
 use unit_rules::{TypePlaces, is_state, settings_of};
 
+/// The variables of these units, by unit and member, where each declaration of variables has one setting, called
+/// `init` or `reset`.
+pub fn variables(
+    alloc: Global,
+    classes: &Classes,
+    outlines: &[Outline],
+) -> Result<Vec<VarNode>, Memory>
+    requires { length outlines.now < 2 ^ 32 }
+    ensures { (m : RootedModel) (units : List UnitPath)
+        → AreOutlines m units classes.now outlines.now
+        → KeepsDeclarations m units
+        → IfOk result (λ v. Along (IsVariableNode m units) (variables_of m units) v.items) }
+{
+    let places = TypePlaces::new(alloc, &classes.types)?;
+    let settings = SettingPlaces::new(alloc, classes)?;
+    let nodes = nodes(alloc, classes, &places, outlines, Listed::Variables)?;
+    let mut variables = Vec::new(alloc);
+    for node in &nodes {
+        add_variable(
+            alloc,
+            classes,
+            &places,
+            &settings,
+            outlines,
+            &mut variables,
+            *node,
+        )?;
+    }
+    Ok(variables)
+}
+
 // The last word of the target of a state variable or a flow.
 fn last_word(is_state: bool) -> Word
-    ensures { target_word_of result ≡ last_of is_state }
+    ensures { target_word_of result ≡ last_target_word is_state }
 {
     if is_state { Word::Init } else { Word::Reset }
 }
@@ -72,35 +103,4 @@ fn add_variable(
         value,
     })?;
     Ok(())
-}
-
-/// The variables of these units, by unit and member, where each declaration of variables has one setting, called
-/// `init` or `reset`.
-pub fn variables(
-    alloc: Global,
-    classes: &Classes,
-    outlines: &[Outline],
-) -> Result<Vec<VarNode>, Memory>
-    requires { length outlines.now < 2 ^ 32 }
-    ensures { (m : RootedModel) (units : List UnitPath)
-        → AreOutlines m units classes.now outlines.now
-        → KeepsDeclarations m units
-        → IfOk result (λ v. Along (IsVariableNode m units) (variables_of m units) v.items) }
-{
-    let places = TypePlaces::new(alloc, &classes.types)?;
-    let settings = SettingPlaces::new(alloc, classes)?;
-    let nodes = nodes(alloc, classes, &places, outlines, Listed::Variables)?;
-    let mut variables = Vec::new(alloc);
-    for node in &nodes {
-        add_variable(
-            alloc,
-            classes,
-            &places,
-            &settings,
-            outlines,
-            &mut variables,
-            *node,
-        )?;
-    }
-    Ok(variables)
 }

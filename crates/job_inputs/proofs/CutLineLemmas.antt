@@ -6,12 +6,12 @@ use denote.Bor.{Bor}
 use Rattle.job_inputs.specs.CutLines.{IsPassed, skipped, counts, IsCutLine, trimmed, trimmed_line, texts_in, is_label, is_comma}
 use Rattle.job_inputs.specs.CutReads.{commas_left}
 use Rattle.job_inputs.specs.Lines.{ScriptLine, Skipped, line_said, is_space_or_tab, pieces}
-use Rattle.job_inputs.specs.Reads.{IsSaid, bytes_left}
+use Rattle.job_inputs.specs.Reads.{IsLineSaid, bytes_left}
 use Rattle.job_inputs.specs.declared.lines.Line as code
 use Rattle.job_inputs.specs.declared.lines.Line.TheVariants as lines
 
 -- what is not said to be skipped
-pub not_skipped : (r : code.Line) (said : ScriptLine) → IsSaid r said → (r ≡ lines.Skipped → ⊥) → said ≡ Skipped → ⊥
+pub not_skipped : (r : code.Line) (said : ScriptLine) → IsLineSaid r said → (r ≡ lines.Skipped → ⊥) → said ≡ Skipped → ⊥
 not_skipped lines.Skipped said h n e = n refl
 not_skipped (lines.Fires label) said h n e = let z = sym h ∙ e in cc
 not_skipped lines.GoesBack said h n e = let z = sym h ∙ e in cc

@@ -9,11 +9,11 @@ use Rattle.gts_core.specs.declared.bound.Chain.{Chain}
 use Rattle.gts_core.specs.declared.system.GtsParts.{GtsParts}
 use Rattle.gts_flatten.specs.Elaborating.{Elaborated}
 use Rattle.job_inputs.specs.CutLines.{IsPassed, IsCutLine, texts_in, trimmed, is_comma}
-use Rattle.job_inputs.specs.Chains.{labels_of, cut_of, HaveKnownWays, IsBadList, AnswersCuts}
+use Rattle.job_inputs.specs.Chains.{chain_labels, cut_of, HaveKnownWays, IsBadList, AnswersCuts}
 use Rattle.job_inputs.specs.CutLists.{CutLine, ListsCutLines, IsBadLabel, IsFirstBadLabel, IsBadCut, CutList}
 use Rattle.job_inputs.specs.CutLists as lists
-use Rattle.job_inputs.specs.CutReads.{AreKnownWays, AnswersLabels, AreReached, AddsCuts, IsBadCutLine, HasRead}
-use Rattle.text_pieces.specs.WayLabels.{label_of}
+use Rattle.job_inputs.specs.CutReads.{AreKnownWays, AnswersLabels, AreLabelsSoFar, AddsCuts, IsBadCutLine, HasRead}
+use Rattle.text_pieces.specs.WayLabels.{numbered_label}
 use Rattle.job_inputs.specs.Labels.{IsLabel, NeedsWay}
 use Rattle.job_inputs.specs.Lines.{lines_of, pieces, is_some_word}
 use Rattle.job_inputs.specs.Reads.{AnswersLabel}
@@ -37,7 +37,7 @@ module _ {x : Elaborated} where
   along_more (t ∷ texts) [] text l a h = elim a [ ]
   along_more (t ∷ texts) (k ∷ labels) text l (one_and i more) h = one_and i (along_more texts labels text l more h)
 
-  pub reached_none : (all : List (List ℕ)) (labels : List Label) → labels ≡ [] → AreReached x all all labels
+  pub reached_none : (all : List (List ℕ)) (labels : List Label) → labels ≡ [] → AreLabelsSoFar x all all labels
   reached_none all labels e = record {
     done = [];
     split = refl;
@@ -47,7 +47,7 @@ module _ {x : Elaborated} where
 
   pub reached_more : (all left rest : List (List ℕ)) (text : List ℕ) (labels more : List Label) (l : Label)
       → left ≡ text ∷ rest → more ≡ labels ++ l ∷ []
-      → AreReached x all left labels → IsLabel x text l → (NeedsWay x text → ⊥) → AreReached x all rest more
+      → AreLabelsSoFar x all left labels → IsLabel x text l → (NeedsWay x text → ⊥) → AreLabelsSoFar x all rest more
   reached_more all left rest text labels more l e f r is way = record {
     done = r.done ++ text ∷ [];
     split = r.split ∙ ap (λ z. r.done ++ z) e ∙ sym (append_assoc r.done (text ∷ []) rest);
@@ -65,7 +65,7 @@ module _ {x : Elaborated} where
 
   pub reached_bad : (all left rest : List (List ℕ)) (text : List ℕ) (labels : List Label) (why : Why)
       → left ≡ text ∷ rest
-      → AreReached x all left labels → IsBadLabel x why text → IsFirstBadLabel x all why
+      → AreLabelsSoFar x all left labels → IsBadLabel x why text → IsFirstBadLabel x all why
   reached_bad all left rest text labels why e r b =
       let split = r.split ∙ ap (λ z. r.done ++ z) e in
       record {
@@ -84,7 +84,7 @@ module _ {x : Elaborated} where
 -- the fault of a label
 pub label_fails : (x : Elaborated) (p : GtsParts) (all left rest : List (List ℕ)) (text : List ℕ) (labels : List Label)
     (number : ℕ) (f : ScriptFault) → left ≡ text ∷ rest
-    → AreReached x all left labels → AnswersLabel x p text number (Err f) → AnswersLabels x p all number (Err f)
+    → AreLabelsSoFar x all left labels → AnswersLabel x p text number (Err f) → AnswersLabels x p all number (Err f)
 label_fails x p all left rest text labels number (faults.Line n) e r h = absurd h
 label_fails x p all left rest text labels number (faults.Unknown n) e r h =
     (h.0, reached_bad all left rest text labels NamesNoEvent e r (lists.no_event h.1 h.2))
@@ -95,11 +95,11 @@ label_fails x p all left rest text labels number faults.Memory e r h = tt
 -- all labels are read
 pub labels_end : (x : Elaborated) (p : GtsParts) (all left : List (List ℕ)) (ways : Vec WayId Global) (number : ℕ)
     → left ≡ []
-    → AreReached x all left (labels_of p ways.items) → AreKnownWays p ways.items
+    → AreLabelsSoFar x all left (chain_labels p ways.items) → AreKnownWays p ways.items
     → AnswersLabels x p all number (Ok ways)
 labels_end x p all left ways number e r k =
     let same : all ≡ r.done = r.split ∙ ap (λ z. r.done ++ z) e ∙ append-nil r.done in (
-      subst (λ (z : List (List ℕ)). Along (IsLabel x) z (labels_of p ways.items)) (sym same) r.along,
+      subst (λ (z : List (List ℕ)). Along (IsLabel x) z (chain_labels p ways.items)) (sym same) r.along,
       k,
       λ n text why s b. r.good n text why (subst (λ (z : List (List ℕ)). Stands z n text) same s) b,
     )
@@ -118,8 +118,8 @@ known_more p old new v e inside h = record {
 }
 
 pub labels_more : (p : GtsParts) (old new : List WayId) (v : WayId) → new ≡ old ++ v ∷ []
-    → labels_of p new ≡ labels_of p old ++ label_of p v.n ∷ []
-labels_more p old new v e = ap (labels_of p) e ∙ map-append (λ (w : WayId). label_of p w.n) old (v ∷ [])
+    → chain_labels p new ≡ chain_labels p old ++ numbered_label p v.n ∷ []
+labels_more p old new v e = ap (chain_labels p) e ∙ map-append (λ (w : WayId). numbered_label p w.n) old (v ∷ [])
 
 -- the answer that was passed on
 pub labels_as : (x : Elaborated) (p : GtsParts) (texts : List (List ℕ)) (number : ℕ)
@@ -134,8 +134,8 @@ pub labels_none : (x : Elaborated) (p : GtsParts) (inner text : List ℕ) (ways 
     → AnswersLabels x p (texts_in inner) number (Ok ways)
 labels_none x p inner text ways number e f g =
     let same : texts_in inner ≡ [] = ap (λ t. if is_some_word t then map trimmed (pieces is_comma inner) else []) (sym e ∙ f) in (
-      subst (λ (z : List (List ℕ)). Along (IsLabel x) z (labels_of p ways.items)) (sym same)
-          (subst (λ (z : List WayId). Along (IsLabel x) [] (labels_of p z)) (sym g) none),
+      subst (λ (z : List (List ℕ)). Along (IsLabel x) z (chain_labels p ways.items)) (sym same)
+          (subst (λ (z : List WayId). Along (IsLabel x) [] (chain_labels p z)) (sym g) none),
       known_none p ways.items g,
       λ n t why s b. stands_none n t (subst (λ (z : List (List ℕ)). Stands z n t) same s),
     )

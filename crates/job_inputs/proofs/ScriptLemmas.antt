@@ -9,12 +9,12 @@ use Rattle.ar_meaning.specs.Runs.{Command, Label}
 use Rattle.ar_meaning.specs.Runs as runs
 use Rattle.gts_core.specs.declared.system.GtsParts.{GtsParts}
 use Rattle.gts_flatten.specs.Elaborating.{Elaborated}
-use Rattle.job_inputs.specs.Flat.{AreFirable, IsFirable, IsBadScript, AnswersScript}
+use Rattle.job_inputs.specs.Flat.{AreFirable, IsWayOfSystem, IsBadScript, AnswersScript}
 use Rattle.job_inputs.specs.Labels.{IsLabel, NeedsWay}
 use Rattle.job_inputs.specs.Lines.{ScriptLine, Skipped, Fires, GoesBack, Shows, ListsEnabled, NoCommand, lines_of, line_said}
 use Rattle.job_inputs.specs.Scripts.{GivesCommands, IsBad, no_command, needs_way, no_event, Why, IsNoCommand, LacksWay, NamesNoEvent, Commands, gives, bad}
 use Rattle.job_inputs.specs.Scripts as scripts
-use Rattle.job_inputs.specs.Reads.{Adds, AnswersLabel, Reached, IsBadLine, lines_left, bytes_left}
+use Rattle.job_inputs.specs.Reads.{AddsCommands, AnswersLabel, ReachedLine, IsBadLine, lines_left, bytes_left}
 use Rattle.job_inputs.specs.declared.commands.Command.{Command as Code}
 use Rattle.job_inputs.specs.declared.commands.Command.TheVariants as code
 use Rattle.job_inputs.specs.declared.commands.ScriptFault.{ScriptFault}
@@ -39,7 +39,7 @@ module _ {x : Elaborated} {line : List ℕ} where
   label_good label k e is way why (no_event {label = other} i h f) =
       let z = sym e ∙ i in let same : label ≡ other = cc in f k (subst (λ (t : List ℕ). IsLabel x t k) same is)
 
-  pub adds_nothing : (cs : List Command) → line_said line ≡ Skipped → Adds x line cs cs
+  pub adds_nothing : (cs : List Command) → line_said line ≡ Skipped → AddsCommands x line cs cs
   adds_nothing cs e = record {
     added = [];
     is = sym (append-nil cs);
@@ -47,7 +47,7 @@ module _ {x : Elaborated} {line : List ℕ} where
     good = not_bad Skipped e (λ i. cc i) (λ label i. cc i);
   }
 
-  pub adds_back : (cs : List Command) → line_said line ≡ GoesBack → Adds x line cs (cs ++ runs.Back ∷ [])
+  pub adds_back : (cs : List Command) → line_said line ≡ GoesBack → AddsCommands x line cs (cs ++ runs.Back ∷ [])
   adds_back cs e = record {
     added = runs.Back ∷ [];
     is = refl;
@@ -55,7 +55,7 @@ module _ {x : Elaborated} {line : List ℕ} where
     good = not_bad GoesBack e (λ i. cc i) (λ label i. cc i);
   }
 
-  pub adds_show : (cs : List Command) → line_said line ≡ Shows → Adds x line cs (cs ++ runs.Show ∷ [])
+  pub adds_show : (cs : List Command) → line_said line ≡ Shows → AddsCommands x line cs (cs ++ runs.Show ∷ [])
   adds_show cs e = record {
     added = runs.Show ∷ [];
     is = refl;
@@ -63,7 +63,7 @@ module _ {x : Elaborated} {line : List ℕ} where
     good = not_bad Shows e (λ i. cc i) (λ label i. cc i);
   }
 
-  pub adds_list : (cs : List Command) → line_said line ≡ ListsEnabled → Adds x line cs (cs ++ runs.Enabled ∷ [])
+  pub adds_list : (cs : List Command) → line_said line ≡ ListsEnabled → AddsCommands x line cs (cs ++ runs.Enabled ∷ [])
   adds_list cs e = record {
     added = runs.Enabled ∷ [];
     is = refl;
@@ -73,7 +73,7 @@ module _ {x : Elaborated} {line : List ℕ} where
 
   pub adds_fire : (cs : List Command) (label : List ℕ) (k : Label) → line_said line ≡ Fires label → IsLabel x label k
       → (NeedsWay x label → ⊥)
-      → Adds x line cs (cs ++ runs.Fire k ∷ [])
+      → AddsCommands x line cs (cs ++ runs.Fire k ∷ [])
   adds_fire cs label k e is way = record {
     added = runs.Fire k ∷ [];
     is = refl;
@@ -83,24 +83,24 @@ module _ {x : Elaborated} {line : List ℕ} where
 
 -- the commands with one more, by their images
 pub one_added : {A : Type 0} (f : A → Command) (x : Elaborated) (line : List ℕ) (old new : List A) (c : A)
-    → new ≡ old ++ c ∷ [] → Adds x line (map f old) (map f old ++ f c ∷ []) → Adds x line (map f old) (map f new)
+    → new ≡ old ++ c ∷ [] → AddsCommands x line (map f old) (map f old ++ f c ∷ []) → AddsCommands x line (map f old) (map f new)
 one_added f x line old new c e a =
-    subst (λ (z : List Command). Adds x line (map f old) z) (sym (ap (map f) e ∙ map-append f old (c ∷ []))) a
+    subst (λ (z : List Command). AddsCommands x line (map f old) z) (sym (ap (map f) e ∙ map-append f old (c ∷ []))) a
 
 -- the ways of one command more
-pub firable_more : (p : GtsParts) (old new : List Code) (c : Code) → new ≡ old ++ c ∷ [] → IsFirable p c
+pub firable_more : (p : GtsParts) (old new : List Code) (c : Code) → new ≡ old ++ c ∷ [] → IsWayOfSystem p c
     → AreFirable p old → AreFirable p new
 firable_more p old new c e is h = record {
   each = λ w o. elim (one_split old (c ∷ []) (code.Fire w) (subst (λ (z : List Code). IsOneOf z (code.Fire w)) e o)) [
     | inl q ↦ h.each w q
     | inr q ↦ elim (one_cases c [] (code.Fire w) q)
-        [ inl i ↦ subst (λ (z : Code). IsFirable p z) i is | inr r ↦ absurd (one_none (code.Fire w) r) ]
+        [ inl i ↦ subst (λ (z : Code). IsWayOfSystem p z) i is | inr r ↦ absurd (one_none (code.Fire w) r) ]
   ];
 }
 
 -- Line by line
 
-pub reach_none : (x : Elaborated) (all : List (List ℕ)) (cs : List Command) → cs ≡ [] → Reached x all all cs 1
+pub reach_none : (x : Elaborated) (all : List (List ℕ)) (cs : List Command) → cs ≡ [] → ReachedLine x all all cs 1
 reach_none x all cs e = record {
   done = [];
   split = refl;
@@ -111,7 +111,7 @@ reach_none x all cs e = record {
 
 pub reach_more : {x : Elaborated} (all rest left : List (List ℕ)) (line : List ℕ) (cs ds : List Command) (number : ℕ)
     → left ≡ line ∷ rest
-    → Reached x all left cs number → Adds x line cs ds → Reached x all rest ds (number + 1)
+    → ReachedLine x all left cs number → AddsCommands x line cs ds → ReachedLine x all rest ds (number + 1)
 reach_more {x = x} all rest left line cs ds number e r a = record {
   done = r.done ++ line ∷ [];
   split = r.split ∙ ap (λ z. r.done ++ z) e ∙ sym (append_assoc r.done (line ∷ []) rest);
@@ -132,14 +132,14 @@ reach_more {x = x} all rest left line cs ds number e r a = record {
     here (suc j) other why s b = stands_none j other s
 
 pub reach_end : {x : Elaborated} (script : List ℕ) (left : List (List ℕ)) (cs : List Command) (number : ℕ) → left ≡ []
-    → Reached x (lines_of script) left cs number → Commands script x (Ok cs)
+    → ReachedLine x (lines_of script) left cs number → Commands script x (Ok cs)
 reach_end {x = x} script left cs number e r =
     gives (subst (λ (z : List (List ℕ)). GivesCommands x z cs) (sym (r.split ∙ ap (λ z. r.done ++ z) e))
     (subst (λ (z : List Command). GivesCommands x (r.done ++ []) z) (append-nil cs) (r.given [] [] scripts.none)))
 
 first_bad : {x : Elaborated} (script : List ℕ) (rest left : List (List ℕ)) (line : List ℕ) (cs : List Command)
     (number n : ℕ) (why : Why) → left ≡ line ∷ rest
-    → Reached x (lines_of script) left cs number → n ≡ number → IsBad x why line
+    → ReachedLine x (lines_of script) left cs number → n ≡ number → IsBad x why line
     → Commands script x (Err (record { number = n; why = why }))
 first_bad {x = x} script rest left line cs number n why e r i h =
     let split = r.split ∙ ap (λ z. r.done ++ z) e in
@@ -158,7 +158,7 @@ first_bad {x = x} script rest left line cs number n why e r i h =
 -- a bad line is the first one
 pub reach_bad : {x : Elaborated} (script : List ℕ) (rest left : List (List ℕ)) (line : List ℕ) (cs : List Command)
     (number : ℕ) (f : ScriptFault) → left ≡ line ∷ rest
-    → Reached x (lines_of script) left cs number → IsBadLine x line number f → IsBadScript x script f
+    → ReachedLine x (lines_of script) left cs number → IsBadLine x line number f → IsBadScript x script f
 reach_bad script rest left line cs number (faults.Line n) e r h =
     first_bad script rest left line cs number n IsNoCommand e r h.0 h.1
 reach_bad script rest left line cs number (faults.Unknown n) e r h =

@@ -24,9 +24,9 @@ use Rattle.hierarchy.specs.Units.{Thing, numbers}
 use Rattle.hierarchy.specs.Walks.{IsThingAt, is_event}
 use Rattle.hierarchy.specs.declared.tree.Tree.{Tree}
 use Rattle.job_inputs.specs.Flat.{IsOfTree}
-use Rattle.text_pieces.specs.WayLabels.{label_of, label_found, ways_found}
+use Rattle.text_pieces.specs.WayLabels.{numbered_label, way_label_found, ways_found}
 use Rattle.job_inputs.specs.Labels.{Spells, NamesEvent, NamesVisible, IsLabel, path, numbered, NeedsWay}
-use Rattle.job_inputs.specs.Reads.{has_mark, AnswersEvent, AnswersVisible, IsVisible, AnswersLabel, IsCounted, IsUnlessHidden, IsWayOf, IsNoWayOf}
+use Rattle.job_inputs.specs.Reads.{has_mark, AnswersEvent, AnswersVisible, IsVisible, AnswersLabel, IsWayCount, IsUnlessHidden, IsNumberedWay, IsNoWayOf}
 use Rattle.job_inputs.specs.declared.commands.ScriptFault.TheVariants as fault
 use Rattle.job_inputs.specs.declared.script_labels.Counted.TheVariants as count
 use Rattle.job_inputs.proofs.MarkLemmas.{decimal_unmarked, last_mark, unmarked}
@@ -161,8 +161,8 @@ module _ {x : Elaborated} {tree : Tree} {p : GtsParts} (of : IsOfTree x tree p) 
 
 -- the label of the way at place k of event e
 listed_label : (p : GtsParts) (e k : ℕ) (n : WayId) → IsListedWay p e k n
-    → label_of p n.n ≡ record { event = e; way = k }
-listed_label p e k n is = ap label_found is.stands
+    → numbered_label p n.n ≡ record { event = e; way = k }
+listed_label p e k n is = ap way_label_found is.stands
     ∙ made is.way.event.n (is.way.number - 1) is.event (omega (arith, is.number))
   where
     made : (a b : ℕ) → a ≡ e → b ≡ k → ◌≡◌ {A = Label} (record { event = a; way = b }) (record { event = e; way = k })
@@ -212,7 +212,7 @@ module _ {x : Elaborated} (p : GtsParts) where
 module _ {x : Elaborated} {p : GtsParts} (sound : IsSound p) where
   -- the only way of an event
   pub only_way : (text : List ℕ) (e : EventId) (w : WayId) (number : ℕ) → IsVisible x p text e
-      → IsCounted p e (count.One w) → AnswersLabel x p text number (Ok w)
+      → IsWayCount p e (count.One w) → AnswersLabel x p text number (Ok w)
   only_way text e w number is (v, stands, only) =
       let here : Stands v.ways.items 0 w = ap (λ (ws : List WayId). slice_get ws 0) only in
       let listed = sound.event_ways e.n 0 v w stands here in
@@ -224,17 +224,17 @@ module _ {x : Elaborated} {p : GtsParts} (sound : IsSound p) where
       )
 
   -- an event with more ways
-  pub many_ways : (text : List ℕ) (e : EventId) (number : ℕ) → IsVisible x p text e → IsCounted p e count.Many
+  pub many_ways : (text : List ℕ) (e : EventId) (number : ℕ) → IsVisible x p text e → IsWayCount p e count.Many
       → AnswersLabel x p text number (Err (fault.Which number))
   many_ways text e number is many = (refl, record { event = e.n; ways = _; names = is.names; many = many })
 
-  pub no_ways : (text : List ℕ) (e : EventId) → IsVisible x p text e → IsCounted p e count.None → HasNoWays x text
+  pub no_ways : (text : List ℕ) (e : EventId) → IsVisible x p text e → IsWayCount p e count.None → HasNoWays x text
   no_ways text e is nothing f ways named = (is.one f ways named).1 ∙ nothing
 
   -- a way by its number
   pub numbered_way : (text before digits : List ℕ) (e : EventId) (w : WayId) (number : ℕ)
       → text ≡ before ++ (35 ∷ digits) → HasNoWays x text
-      → IsVisible x p before e → IsWayOf p e digits w → AnswersLabel x p text number (Ok w)
+      → IsVisible x p before e → IsNumberedWay p e digits w → AnswersLabel x p text number (Ok w)
   numbered_way text before digits e w number split h is (v, i, written, stands, here) =
       let listed = sound.event_ways e.n i v w stands here in
       let inside : i < ways_found (slice_get p.events.items e.n) = let k = stands_within v.ways.items i w here in omega (arith, k, ap ways_found stands) in (
@@ -265,6 +265,6 @@ pub way_answer : (p : GtsParts) (e : EventId) (digits : List ℕ) (v : Event) (w
     → Stands p.events.items e.n v → ws ≡ v.ways.items
     → MatchOption r ((i : ℕ) → digits ≡ decimal (i + 1) → i < length ws → ⊥)
     (λ (w : WayId). (i : ℕ) × (digits ≡ decimal (i + 1)) × Stands ws i w)
-    → MatchOption r (IsNoWayOf p e digits) (λ (w : WayId). IsWayOf p e digits w)
+    → MatchOption r (IsNoWayOf p e digits) (λ (w : WayId). IsNumberedWay p e digits w)
 way_answer p e digits v ws None s i h = λ k same inside. h k same (let n = ap ways_found s in let m = ap length i in omega (arith, inside, n, m))
 way_answer p e digits v ws (Some w) s i h = (v, h.0, h.1, s, subst (λ (z : List WayId). Stands z h.0 w) i h.2)

@@ -8,18 +8,18 @@ use Rattle.gts_core.specs.declared.bound.Chain.{Chain}
 use Rattle.gts_core.specs.declared.system.GtsParts.{GtsParts}
 use Rattle.gts_flatten.specs.Elaborating.{Elaborated}
 use Rattle.job_inputs.specs.CutLists.{CutLine, CutList}
-use Rattle.text_pieces.specs.WayLabels.{label_of}
+use Rattle.text_pieces.specs.WayLabels.{numbered_label}
 use Rattle.job_inputs.specs.Scripts.{IsNoCommand, LacksWay, NamesNoEvent}
 use Rattle.job_inputs.specs.declared.commands.ScriptFault.{ScriptFault}
 use Rattle.job_inputs.specs.declared.commands.ScriptFault.TheVariants as fault
 
 -- the labels of these ways
-abbrev pub labels_of : GtsParts → List WayId → List Label
-labels_of p ways = map (λ (w : WayId). label_of p w.n) ways
+abbrev pub chain_labels : GtsParts → List WayId → List Label
+chain_labels p ways = map (λ (w : WayId). numbered_label p w.n) ways
 
 -- a chain of ways as a cut line
 abbrev pub cut_of : GtsParts → Chain → CutLine
-cut_of p c = record { number = c.line; labels = labels_of p c.ways.items }
+cut_of p c = record { number = c.line; labels = chain_labels p c.ways.items }
 
 -- the ways of these chains are those of the system
 pub record HaveKnownWays (p : GtsParts) (chains : List Chain) : Type 0 where

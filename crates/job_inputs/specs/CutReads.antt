@@ -8,7 +8,7 @@ use Rattle.ar_meaning.specs.Runs.{Label}
 use Rattle.gts_core.specs.declared.system.GtsParts.{GtsParts}
 use Rattle.gts_flatten.specs.Elaborating.{Elaborated}
 use Rattle.job_inputs.specs.CutLines.{IsPassed, IsCutLine, texts_in, is_comma}
-use Rattle.job_inputs.specs.Chains.{labels_of}
+use Rattle.job_inputs.specs.Chains.{chain_labels}
 use Rattle.job_inputs.specs.CutLists.{CutLine, ListsCutLines, IsBadLabel, IsFirstBadLabel, IsBadCut}
 use Rattle.job_inputs.specs.Labels.{IsLabel}
 use Rattle.job_inputs.specs.Lines.{pieces}
@@ -36,7 +36,7 @@ pub record AreKnownWays (p : GtsParts) (ways : List WayId) : Type 0 where
 -- the ways that the labels of a line name, none of which is bad, or the fault of its first bad label
 abbrev pub AnswersLabels : Elaborated → GtsParts → List (List ℕ) → ℕ → Result (Vec WayId Global) ScriptFault → Type 0
 AnswersLabels x p texts number (Ok ways) =
-    Along (IsLabel x) texts (labels_of p ways.items) × AreKnownWays p ways.items
+    Along (IsLabel x) texts (chain_labels p ways.items) × AreKnownWays p ways.items
     × ((n : ℕ) (text : List ℕ) (why : Why) → Stands texts n text → IsBadLabel x why text → ⊥)
 AnswersLabels x p texts number (Err (fault.Which n)) = (n ≡ number) × IsFirstBadLabel x texts LacksWay
 AnswersLabels x p texts number (Err (fault.Unknown n)) = (n ≡ number) × IsFirstBadLabel x texts NamesNoEvent
@@ -44,7 +44,7 @@ AnswersLabels x p texts number (Err (fault.Line n)) = ⊥
 AnswersLabels x p texts number (Err fault.Memory) = Unit {0}
 
 -- the texts before those that are left are labels of these ways, and none of them is bad
-pub record AreReached (x : Elaborated) (all left : List (List ℕ)) (labels : List Label) : Type 0 where
+pub record AreLabelsSoFar (x : Elaborated) (all left : List (List ℕ)) (labels : List Label) : Type 0 where
   pub done : List (List ℕ)
   pub split : all ≡ done ++ left
   pub along : Along (IsLabel x) done labels

@@ -14,21 +14,21 @@ use Rattle.job_inputs.specs.declared.commands.Command.{Command}
 use Rattle.job_inputs.specs.declared.commands.Command.TheVariants.{Fire, Back, Show, Enabled}
 use Rattle.job_inputs.specs.declared.commands.ScriptFault.{ScriptFault}
 use Rattle.job_inputs.specs.declared.commands.ScriptFault.TheVariants.{Line, Unknown, Which, Memory}
-use Rattle.text_pieces.specs.WayLabels.{label_of}
+use Rattle.text_pieces.specs.WayLabels.{numbered_label}
 
 -- a command by the label of its way
 abbrev pub command_of : GtsParts → Command → runs.Command
-command_of p (Fire w) = runs.Fire (label_of p w.n)
+command_of p (Fire w) = runs.Fire (numbered_label p w.n)
 command_of p Back = runs.Back
 command_of p Show = runs.Show
 command_of p Enabled = runs.Enabled
 
 -- the way of a command is one of the system's
-abbrev pub IsFirable : GtsParts → Command → Type 0
-IsFirable p (Fire w) = w.n < length p.ways.items
-IsFirable p Back = Unit {0}
-IsFirable p Show = Unit {0}
-IsFirable p Enabled = Unit {0}
+abbrev pub IsWayOfSystem : GtsParts → Command → Type 0
+IsWayOfSystem p (Fire w) = w.n < length p.ways.items
+IsWayOfSystem p Back = Unit {0}
+IsWayOfSystem p Show = Unit {0}
+IsWayOfSystem p Enabled = Unit {0}
 
 -- the ways of these commands are those of the system
 pub record AreFirable (p : GtsParts) (commands : List Command) : Type 0 where

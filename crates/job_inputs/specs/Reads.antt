@@ -10,7 +10,7 @@ use Rattle.gts_core.specs.declared.system.Event.{Event}
 use Rattle.gts_core.specs.declared.system.GtsParts.{GtsParts}
 use Rattle.gts_flatten.specs.Elaborating.{Elaborated}
 use Rattle.hierarchy.specs.Units.{numbers}
-use Rattle.text_pieces.specs.WayLabels.{label_of, ways_found}
+use Rattle.text_pieces.specs.WayLabels.{numbered_label, ways_found}
 use Rattle.job_inputs.specs.Labels.{is_dot, Spells, NamesEvent, NamesVisible, IsLabel, NeedsWay}
 use Rattle.job_inputs.specs.Lines.{ScriptLine, Skipped, Fires, GoesBack, Shows, ListsEnabled, NoCommand, pieces, lines_of}
 use Rattle.job_inputs.specs.Scripts.{IsBad, IsNoCommand, LacksWay, NamesNoEvent, Why, GivesCommands}
@@ -22,13 +22,13 @@ use Rattle.job_inputs.specs.declared.script_labels.Counted.TheVariants as count
 use Rattle.job_inputs.specs.declared.lines.Line.TheVariants as lines
 
 -- the code's line says this
-abbrev pub IsSaid : code.Line → ScriptLine → Type 0
-IsSaid lines.Skipped said = said ≡ Skipped
-IsSaid (lines.Fires label) said = said ≡ Fires label.now
-IsSaid lines.GoesBack said = said ≡ GoesBack
-IsSaid lines.Shows said = said ≡ Shows
-IsSaid lines.ListsEnabled said = said ≡ ListsEnabled
-IsSaid lines.NoCommand said = said ≡ NoCommand
+abbrev pub IsLineSaid : code.Line → ScriptLine → Type 0
+IsLineSaid lines.Skipped said = said ≡ Skipped
+IsLineSaid (lines.Fires label) said = said ≡ Fires label.now
+IsLineSaid lines.GoesBack said = said ≡ GoesBack
+IsLineSaid lines.Shows said = said ≡ Shows
+IsLineSaid lines.ListsEnabled said = said ≡ ListsEnabled
+IsLineSaid lines.NoCommand said = said ≡ NoCommand
 
 -- the lines that are left to read
 abbrev pub lines_left : Option (Bor (List ℕ)) → List (List ℕ)
@@ -75,14 +75,14 @@ IsUnlessHidden p e (Some f) = (f ≡ e) × ((v : Event) × Stands p.events.items
 IsUnlessHidden p e None = (v : Event) → Stands p.events.items e.n v → v.hidden ≡ true
 
 -- how many ways an event has, and its way where it is the only one
-abbrev pub IsCounted : GtsParts → EventId → Counted → Type 0
-IsCounted p e count.None = ways_found (slice_get p.events.items e.n) ≡ 0
-IsCounted p e (count.One w) = (v : Event) × Stands p.events.items e.n v × (v.ways.items ≡ w ∷ [])
-IsCounted p e count.Many = 2 ≤ ways_found (slice_get p.events.items e.n)
+abbrev pub IsWayCount : GtsParts → EventId → Counted → Type 0
+IsWayCount p e count.None = ways_found (slice_get p.events.items e.n) ≡ 0
+IsWayCount p e (count.One w) = (v : Event) × Stands p.events.items e.n v × (v.ways.items ≡ w ∷ [])
+IsWayCount p e count.Many = 2 ≤ ways_found (slice_get p.events.items e.n)
 
 -- the way has the number, from 1, that the digits write, among those of the event
-abbrev pub IsWayOf : GtsParts → EventId → List ℕ → WayId → Type 0
-IsWayOf p e digits w = (v : Event) × (i : ℕ) × (digits ≡ decimal (i + 1)) × Stands p.events.items e.n v
+abbrev pub IsNumberedWay : GtsParts → EventId → List ℕ → WayId → Type 0
+IsNumberedWay p e digits w = (v : Event) × (i : ℕ) × (digits ≡ decimal (i + 1)) × Stands p.events.items e.n v
     × Stands v.ways.items i w
 
 -- no way has the number that the digits write
@@ -94,7 +94,7 @@ IsNoWayOf p e digits = (i : ℕ) → digits ≡ decimal (i + 1) → i < ways_fou
 -- the way that a label names, or the fault of its line
 abbrev pub AnswersLabel : Elaborated → GtsParts → List ℕ → ℕ → Result WayId ScriptFault → Type 0
 AnswersLabel x p label number (Ok w) =
-    IsLabel x label (label_of p w.n) × (w.n < length p.ways.items) × (NeedsWay x label → ⊥)
+    IsLabel x label (numbered_label p w.n) × (w.n < length p.ways.items) × (NeedsWay x label → ⊥)
 AnswersLabel x p label number (Err (fault.Which n)) = (n ≡ number) × NeedsWay x label
 AnswersLabel x p label number (Err (fault.Unknown n)) =
     (n ≡ number) × (NeedsWay x label → ⊥) × ((l : Label) → IsLabel x label l → ⊥)
@@ -104,7 +104,7 @@ AnswersLabel x p label number (Err fault.Memory) = Unit {0}
 -- Lines
 
 -- the commands with those that a line adds, which is not bad
-pub record Adds (x : Elaborated) (line : List ℕ) (old new : List Command) : Type 0 where
+pub record AddsCommands (x : Elaborated) (line : List ℕ) (old new : List Command) : Type 0 where
   pub added : List Command
   pub is : new ≡ old ++ added
   pub gives : (lines : List (List ℕ)) (more : List Command) → GivesCommands x lines more
@@ -119,7 +119,7 @@ IsBadLine x line number (fault.Which n) = (n ≡ number) × IsBad x LacksWay lin
 IsBadLine x line number fault.Memory = Unit {0}
 
 -- the lines before those that are left have given the commands, and none of them is bad; this is the next line's number
-pub record Reached (x : Elaborated) (all left : List (List ℕ)) (cs : List Command) (number : ℕ) : Type 0 where
+pub record ReachedLine (x : Elaborated) (all left : List (List ℕ)) (cs : List Command) (number : ℕ) : Type 0 where
   pub done : List (List ℕ)
   pub split : all ≡ done ++ left
   pub counts : length done + 1 ≡ number

@@ -5,7 +5,7 @@ ghost use Rattle.ar_base.specs.Counts.{limit_of};
 ghost use Rattle.ar_base.specs.declared.counts.Count.TheVariants.{ScriptBytes};
 ghost use Rattle.gts_flatten.specs.Elaborating.{Elaborated};
 ghost use Rattle.job_inputs.specs.Flat.{command_of, AreFirable, IsOfTree, AnswersScript};
-ghost use Rattle.job_inputs.specs.Reads.{Adds, IsBadLine};
+ghost use Rattle.job_inputs.specs.Reads.{AddsCommands, IsBadLine};
 
 use crate::lines::{Line, first_line, line_of};
 use crate::script_labels::way_named;
@@ -97,7 +97,7 @@ fn add_line(
 ) -> Result<(), ScriptFault>
     requires { (x : Elaborated) × IsOfTree x tree.now gts.now }
     ensures added { (x : Elaborated) → IsOfTree x tree.now gts.now
-        → OnOk result (Adds x line.now (map (command_of gts.now) commands.old.items)
+        → OnOk result (AddsCommands x line.now (map (command_of gts.now) commands.old.items)
         (map (command_of gts.now) commands.new.items)) }
     ensures firable { (x : Elaborated) → IsOfTree x tree.now gts.now
         → AreFirable gts.now commands.old.items

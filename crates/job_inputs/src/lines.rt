@@ -3,7 +3,7 @@
 ghost use Rattle.std.specs.Prelude.{◌≡◌, ◌+◌, ◌<◌, ◌≤◌, [], ◌∷◌, length, not, MatchOption};
 ghost use Rattle.std.specs.List.{prefix_len};
 ghost use Rattle.job_inputs.specs.Lines.{is_space_or_tab, lines_of, words_of, without_return, word_said, line_said};
-ghost use Rattle.job_inputs.specs.Reads.{IsSaid};
+ghost use Rattle.job_inputs.specs.Reads.{IsLineSaid};
 
 use crate::cutting::first_piece;
 
@@ -90,7 +90,7 @@ fn first_word(line: &[u8]) -> (&[u8], &[u8])
 
 /// What a line says.
 pub(crate) fn line_of(line: &[u8]) -> Line<'_>
-    ensures { IsSaid result (line_said line.now) }
+    ensures { IsLineSaid result (line_said line.now) }
 {
     let (command, rest) = first_word(without_return(line));
     if command.is_empty() {
@@ -116,7 +116,7 @@ pub(crate) fn line_of(line: &[u8]) -> Line<'_>
 
 // What a line of one word says.
 fn word_of(word: &[u8]) -> Line<'_>
-    ensures { IsSaid result (word_said word.now) }
+    ensures { IsLineSaid result (word_said word.now) }
 {
     if word == b"back".as_slice() {
         Line::GoesBack

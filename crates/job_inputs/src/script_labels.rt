@@ -5,7 +5,7 @@ ghost use Rattle.gts_core.specs.Sound.{IsSound};
 ghost use Rattle.gts_flatten.specs.Elaborating.{Elaborated};
 ghost use Rattle.job_inputs.specs.Flat.{IsOfTree};
 ghost use Rattle.job_inputs.specs.Labels.{NamesVisible};
-ghost use Rattle.job_inputs.specs.Reads.{AnswersLabel, IsCounted, IsWayOf, IsNoWayOf};
+ghost use Rattle.job_inputs.specs.Reads.{AnswersLabel, IsWayCount, IsNumberedWay, IsNoWayOf};
 
 use crate::commands::ScriptFault;
 use crate::paths::visible_at;
@@ -50,7 +50,7 @@ enum Counted {
 
 // How many ways an event has.
 fn ways_of(parts: &GtsParts, event: EventId) -> Counted
-    ensures { IsCounted parts.now event result }
+    ensures { IsWayCount parts.now event result }
 {
     match parts.events.get(event.n as usize) {
         Some(found) => match found.ways.as_slice() {
@@ -90,7 +90,7 @@ fn way_numbered(
 // The way of this number, from 1, of an event.
 fn way_at(parts: &GtsParts, event: EventId, digits: &[u8]) -> Option<WayId>
     ensures { MatchOption result (IsNoWayOf parts.now event digits.now)
-        (λ way. IsWayOf parts.now event digits.now way) }
+        (λ way. IsNumberedWay parts.now event digits.now way) }
 {
     match parts.events.get(event.n as usize) {
         Some(found) => way_of(&found.ways, digits),

@@ -6,7 +6,7 @@ use Rattle.altarica_run.specs.Follows.{Call, Gave, Wrote}
 use Rattle.job_stages.specs.Refusals.{line_of, status_of}
 use Rattle.altarica_run.specs.Says.{Says, tells}
 use Rattle.job_stages.specs.Stages.{Ready, Passes, lists_cuts}
-use Rattle.altarica_run.specs.Statuses.{IsTold, IsRefused}
+use Rattle.altarica_run.specs.Statuses.{IsWholeTold, IsRefused}
 use Rattle.job_stages.specs.Tells.{Tells}
 use Rattle.job_stages.specs.declared.refusals.Refusal.{Refusal}
 use Rattle.job_stages.specs.declared.status.Status.{Status}
@@ -25,7 +25,7 @@ TellsBack = (w v : Ready) → SameReady w v → (asked : Asked) (text : List ℕ
 module _ (c : Call) (asked : Asked) (one : (a b : Asked) → IsAsked c.words a → IsAsked c.words b → a ≡ b)
     (is : IsAsked c.words asked) where
   -- a call that tells a text of a job, or a refusal of it, was not stopped; each other one of words that give a job was
-  module _ (Answers : Status → Type 0) (told : (s : Status) → IsTold c s → Answers s)
+  module _ (Answers : Status → Type 0) (told : (s : Status) → IsWholeTold c s → Answers s)
       (refused : (s : Status) → IsRefused c s → Answers s) where
     answers : (s : Status) → Gave c s → Answers s ⊎ IsStopped c s
     answers status.Done g = inl (told status.Done (meaning_of c status.Done g))
@@ -51,7 +51,7 @@ module _ (c : Call) (asked : Asked) (one : (a b : Asked) → IsAsked c.words a �
       abbrev IsGiven : Status → Type 0
       IsGiven s = (s ≡ status_of r) × Wrote c (line_of r)
 
-      not_told : (s : Status) → IsTold c s → IsGiven s
+      not_told : (s : Status) → IsWholeTold c s → IsGiven s
       not_told s m = absurd (alike (Ok m.ready) (Err r) (passes_here m.asked m.is_job (Ok m.ready) m.passes) p)
 
       given : (s : Status) → IsRefused c s → IsGiven s
@@ -64,7 +64,7 @@ module _ (c : Call) (asked : Asked) (one : (a b : Asked) → IsAsked c.words a �
       refused_or_stopped s g = answers IsGiven not_told given s g
 
     module _ (w : Ready) (p : Passes c.files asked (Ok w)) (back : TellsBack) where
-      answered : (s : Status) → IsTold c s → IsAnswered c asked w s
+      answered : (s : Status) → IsWholeTold c s → IsAnswered c asked w s
       answered s m =
           let same : SameReady w m.ready = alike (Ok w) (Ok m.ready) p
           (passes_here m.asked m.is_job (Ok m.ready) m.passes) in

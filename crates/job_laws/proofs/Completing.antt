@@ -9,7 +9,7 @@ use Rattle.run_words.specs.Jobs.{IsAsked}
 use Rattle.altarica_run.specs.Follows.{Call, Gave, IsQuiet}
 use Rattle.altarica_run.specs.Listings.{IsListing}
 use Rattle.job_stages.specs.Stages.{Ready, Passes, lists_cuts}
-use Rattle.altarica_run.specs.Statuses.{IsTold, IsRefused}
+use Rattle.altarica_run.specs.Statuses.{IsWholeTold, IsRefused}
 use Rattle.job_stages.specs.Tells.{MayNeedMore, Tells}
 use Rattle.job_stages.specs.declared.refusals.Refusal.{Refusal}
 use Rattle.job_stages.specs.declared.status.Status.{Status}
@@ -38,23 +38,23 @@ module _ (c : Call) (asked : Asked) (one : (a b : Asked) → IsAsked c.words a �
       (free : (v : Ready) → SameReady w v → IsConflictFreeUpTo v.order v.source.system v.dropped)
       (enough : (v : Ready) → SameReady w v → MayNeedMore v asked.job.nodes → ⊥)
       (listing : Gave c status.Done → IsListing c asked) (quiet : IsQuiet c) where
-    told_same : (s : Status) → (m : IsTold c s) → SameReady w m.ready
+    told_same : (s : Status) → (m : IsWholeTold c s) → SameReady w m.ready
     told_same s m = alike (Ok w) (Ok m.ready) p (at_job m.asked m.is_job (Ok m.ready) m.passes)
 
-    tells_at : (s : Status) → (m : IsTold c s) → Tells asked m.ready m.text s
+    tells_at : (s : Status) → (m : IsWholeTold c s) → Tells asked m.ready m.text s
     tells_at s m = subst (λ (z : Asked). Tells z m.ready m.text s) (one m.asked asked m.is_job is) m.tells
 
     never : (s : Status) → IsRefused c s → ⊥
     never s m = alike (Err m.refusal) (Ok w) (at_job m.asked m.is_job (Err m.refusal) m.stage) p
 
-    no_fault : IsTold c status.Fault → ⊥
+    no_fault : IsWholeTold c status.Fault → ⊥
     no_fault m =
         let h = conflict_text asked m.ready (ap lists_cuts sought) m.text status.Fault refl (tells_at status.Fault m) in
         free_met m.ready (free m.ready (told_same status.Fault m)) h.set
         (has_other m.ready.order (ConflictSet m.ready.source.system m.ready.dropped)
         (MeetsConflict m.ready.source.system m.ready.dropped) (λ t k. k.has) h.set (h.are_listed.sound zero h.set refl))
 
-    no_nodes : IsTold c status.Nodes → ⊥
+    no_nodes : IsWholeTold c status.Nodes → ⊥
     no_nodes m =
         enough m.ready (told_same status.Nodes m)
         (nodes_line_told asked m.ready m.text status.Nodes refl (tells_at status.Nodes m)).needs

@@ -2,7 +2,7 @@
 use Rattle.std.proofs.Common.{◌≡◌, ℕ, Bool, true, List, ◌∷◌, ◌++◌, map, codes, refl, sym, ap, ◌∙◌}
 use Rattle.ar_base.specs.Numbers.{VarId}
 use Rattle.ar_base.specs.Texts.{separated}
-use Rattle.typed_expr.specs.PairsInside.{turned}
+use Rattle.typed_expr.specs.PairsInside.{turned_pairs}
 use Rattle.typed_expr.specs.Yields.{Level}
 use Rattle.typed_expr.specs.Renames.{Renames, All_rename, Parts_rename, Cases_rename}
 use Rattle.typed_expr.specs.Renames as r
@@ -31,7 +31,7 @@ items_one e f = cc
 named_alike : (e f : Expr VarId) → Renames Same (out-Expr ℕ (numbered e)) (out-Expr ℕ (numbered f))
     → Renames OfOneNumber (out-Expr VarId e) (out-Expr VarId f)
 named_alike e f d =
-    renames_joined IsNumber (turned IsNumber) OfOneNumber (λ x n y i j. i ∙ sym j)
+    renames_joined IsNumber (turned_pairs IsNumber) OfOneNumber (λ x n y i j. i ∙ sym j)
     (renames_joined IsNumber Same IsNumber (λ x m n i j. i ∙ j) (renames_numbered e) d)
     (renames_turned IsNumber (renames_numbered f))
 

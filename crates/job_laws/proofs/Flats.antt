@@ -5,7 +5,7 @@ use Rattle.ar_base.specs.Lists.{Stands, AreDifferent, Along}
 use Rattle.ar_base.specs.Lists as l
 use Rattle.ar_base.specs.Numbers.{WayId}
 use Rattle.ar_base.proofs.Standing.{stands_one, along_on, along_length}
-use Rattle.typed_expr.specs.PairsInside.{turned}
+use Rattle.typed_expr.specs.PairsInside.{turned_pairs}
 use Rattle.typed_expr.specs.declared.expr.Expr.{Expr}
 use Rattle.ar_meaning.specs.Systems.{Net, Transition, Tree, Event as SystemEvent, Variable as SystemVariable}
 use Rattle.ar_meaning.specs.FlatOf.{IsNumber}
@@ -77,33 +77,33 @@ module _ (x : Elaborated) (different : AreDifferent (events x.declarations.model
   things = variables x.declarations.model x.declarations.units
 
   -- a number of one system is that of the other
-  through : (m : ℕ) (t : Thing) (n : ℕ) → turned (IsNumber things) m t → IsNumber things t n → Same m n
+  through : (m : ℕ) (t : Thing) (n : ℕ) → turned_pairs (IsNumber things) m t → IsNumber things t n → Same m n
   through m t n r s = f.is_flat.different.one m n t r s
 
   variables_along : Along (Variable_renames Same) (net_of p).variables (net_of q).variables
   variables_along =
       subst (λ (z : Net ℕ). Along (Variable_renames Same) z.variables (net_of q).variables) f.views.net
       (subst (λ (z : Net ℕ). Along (Variable_renames Same) f.flat.net.variables z.variables) g.views.net
-      (along_joined (variable_joined (turned (IsNumber things)) (IsNumber things) Same through)
+      (along_joined (variable_joined (turned_pairs (IsNumber things)) (IsNumber things) Same through)
       (flat_back things x.system f.flat f.is_flat).net.variables g.is_flat.variables))
 
   assertions_along : Along (Assign_renames Same) (net_of p).assertions (net_of q).assertions
   assertions_along =
       subst (λ (z : Net ℕ). Along (Assign_renames Same) z.assertions (net_of q).assertions) f.views.net
       (subst (λ (z : Net ℕ). Along (Assign_renames Same) f.flat.net.assertions z.assertions) g.views.net
-      (along_joined (assign_joined (turned (IsNumber things)) (IsNumber things) Same through)
+      (along_joined (assign_joined (turned_pairs (IsNumber things)) (IsNumber things) Same through)
       (flat_back things x.system f.flat f.is_flat).net.assertions g.is_flat.assertions))
 
   events_along : Along (Event_renames Same) f.flat.events g.flat.events
   events_along =
-      along_joined (event_joined (turned (IsNumber things)) (IsNumber things) Same through)
+      along_joined (event_joined (turned_pairs (IsNumber things)) (IsNumber things) Same through)
       (flat_back things x.system f.flat f.is_flat).events g.is_flat.events
 
   observers_along : Along (Expr_renames Same) (observers_of p) (observers_of q)
   observers_along =
       subst (λ (z : List (Expr ℕ)). Along (Expr_renames Same) z (observers_of q)) f.views.observers
       (subst (λ (z : List (Expr ℕ)). Along (Expr_renames Same) f.flat.observers z) g.views.observers
-      (along_joined (observer_joined (turned (IsNumber things)) (IsNumber things) Same through)
+      (along_joined (observer_joined (turned_pairs (IsNumber things)) (IsNumber things) Same through)
       (flat_back things x.system f.flat f.is_flat).observers g.is_flat.observers))
 
   ways_alike : Along AreAlike p.ways.items q.ways.items

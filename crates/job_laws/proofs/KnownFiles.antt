@@ -14,7 +14,7 @@ use Rattle.job_stages.specs.declared.status.Status.{Status}
 use Rattle.altarica_run.specs.Follows.{Call, Gave, RoseAt, IsKnown, IsQuiet}
 use Rattle.altarica_run.specs.Says.{Says, usage, refuses, tells, Begins, EndsSo}
 use Rattle.altarica_run.specs.Says as says
-use Rattle.job_laws.specs.Runs.{AreKnown, settled, settled_call}
+use Rattle.job_laws.specs.Runs.{AreFilesTold, settled, settled_call}
 
 pub settled_known : (told : Told) → IsKnown (settled told)
 settled_known (Bytes bytes) = tt
@@ -55,16 +55,16 @@ module _ (told : List ℕ → Told) where
   loads_after (f ∷ fs) kind name k (next text h m) =
       next text (file_after f text k.0 h) (loads_after fs kind name k.1 m)
 
-  pub passes_after : (asked : Asked) (x : Result Ready Refusal) → AreKnown told asked → Passes told asked x → Passes after asked x
+  pub passes_after : (asked : Asked) (x : Result Ready Refusal) → AreFilesTold told asked → Passes told asked x → Passes after asked x
   passes_after asked x k (not_loaded {r = r} h) = not_loaded (loaded_after (files_of asked) (Err r) k h)
   passes_after asked x k (loaded texts h is s) = loaded texts (loaded_after (files_of asked) (Ok texts) k h) is s
 
   -- The words
 
   module _ (rose : List ℕ → Type 0) (words : List (List ℕ)) (asked : Asked) (is : IsAsked words asked)
-      (one : (a b : Asked) → IsAsked words a → IsAsked words b → a ≡ b) (known : AreKnown told asked) where
-    known_of : (other : Asked) → IsAsked words other → AreKnown told other
-    known_of other b = subst (λ (z : Asked). AreKnown told z) (one asked other is b) known
+      (one : (a b : Asked) → IsAsked words a → IsAsked words b → a ≡ b) (known : AreFilesTold told asked) where
+    known_of : (other : Asked) → IsAsked words other → AreFilesTold told other
+    known_of other b = subst (λ (z : Asked). AreFilesTold told z) (one asked other is b) known
 
     says_after : (text : List ℕ) (ends : Status) → Says told words text ends → Says after words text ends
     says_after text ends (usage h) = usage h
@@ -90,7 +90,7 @@ module _ (told : List ℕ → Told) where
 -- The call
 
 pub gave_after : (c : Call) (s : Status) (asked : Asked) → ((a b : Asked) → IsAsked c.words a → IsAsked c.words b → a ≡ b)
-    → Gave c s → IsAsked c.words asked → AreKnown c.files asked
+    → Gave c s → IsAsked c.words asked → AreFilesTold c.files asked
     → Gave (settled_call c) s
 gave_after c s asked one g is known = record {
   ends = ends_after c.files (RoseAt c) c.words asked is one known

@@ -10,7 +10,7 @@ use Rattle.ar_io.specs.Outside.{Told, Bytes, Absent}
 use Rattle.ar_io.specs.declared.outside.LoadFault.{LoadFault}
 use Rattle.ar_io.specs.declared.outside.LoadFault.TheVariants as fault
 use Rattle.altarica_run.specs.Follows.{IsKnown}
-use Rattle.job_laws.specs.Runs.{Agrees, AgreesWith, AreApart}
+use Rattle.job_laws.specs.Runs.{IsToldOfLoad, AgreesWith, AreLoadedOnce}
 
 abbrev told_of : ℕ → Result (List ℕ) LoadFault → Told
 told_of most (Ok bytes) = Bytes bytes
@@ -29,7 +29,7 @@ of_known most (Err fault.TooLong) = tt
 of_known most (Err fault.Failed) = tt
 of_known most (Err fault.Memory) = tt
 
-of_agrees : (most : ℕ) (got : Result (List ℕ) LoadFault) → Agrees (told_of most got) most got
+of_agrees : (most : ℕ) (got : Result (List ℕ) LoadFault) → IsToldOfLoad (told_of most got) most got
 of_agrees most (Ok bytes) = refl
 of_agrees most (Err fault.TooLong) =
     let n = length-replicate {A = ℕ} (most + 1) 0 in (replicate (most + 1) 0, refl, omega (arith, n))
@@ -48,9 +48,9 @@ by_known (l ∷ loads) name =
 
 -- The loads
 
-first_agrees : (l : Load) (loads : List Load) → Agrees (told_by (l ∷ loads) l.name) l.most l.got
+first_agrees : (l : Load) (loads : List Load) → IsToldOfLoad (told_by (l ∷ loads) l.name) l.most l.got
 first_agrees l loads =
-    subst (λ (b : Bool). Agrees (if b then told_of l.most l.got else told_by loads l.name) l.most l.got)
+    subst (λ (b : Bool). IsToldOfLoad (if b then told_of l.most l.got else told_by loads l.name) l.most l.got)
     (sym ((bytes_eq-Decides l.name l.name).1 refl)) (of_agrees l.most l.got)
 
 rest_agrees : (l : Load) (loads rest : List Load)
@@ -58,15 +58,15 @@ rest_agrees : (l : Load) (loads rest : List Load)
     → AgreesWith (told_by loads) rest → AgreesWith (told_by (l ∷ loads)) rest
 rest_agrees l loads [] n a = tt
 rest_agrees l loads (m ∷ rest) n a = (
-  subst (λ (b : Bool). Agrees (if b then told_of l.most l.got else told_by loads m.name) m.most m.got) (sym n.0) a.0,
+  subst (λ (b : Bool). IsToldOfLoad (if b then told_of l.most l.got else told_by loads m.name) m.most m.got) (sym n.0) a.0,
   rest_agrees l loads rest n.1 a.1,
 )
 
-by_agrees : (loads : List Load) → AreApart loads → AgreesWith (told_by loads) loads
+by_agrees : (loads : List Load) → AreLoadedOnce loads → AgreesWith (told_by loads) loads
 unfolding IsDistinct
 by_agrees [] a = tt
 by_agrees (l ∷ loads) a = (first_agrees l loads, rest_agrees l loads loads a.0 (by_agrees loads a.1))
 
-pub could_be_told : (loads : List Load) → AreApart loads
+pub could_be_told : (loads : List Load) → AreLoadedOnce loads
     → (told : List ℕ → Told) × ((name : List ℕ) → IsKnown (told name)) × AgreesWith told loads
 could_be_told loads a = (told_by loads, by_known loads, by_agrees loads a)

@@ -15,7 +15,7 @@ use Rattle.job_stages.specs.Stages.{Ready, not_loaded, loaded}
 use Rattle.job_stages.specs.declared.refusals.Refusal.{Refusal}
 use Rattle.job_stages.specs.declared.stops.Stop.{Stop}
 use Rattle.job_stages.specs.declared.stops.Stop.TheVariants.{Refused, Memory}
-use Rattle.job_laws.specs.Runs.{Agrees, AgreesWith, Failed, here, behind, PassesOver, passes, not_read}
+use Rattle.job_laws.specs.Runs.{IsToldOfLoad, AgreesWith, Failed, here, behind, PassesOver, passes, not_read}
 
 is_file : (t : Told) (most : ℕ) (text : List ℕ) → t ≡ Bytes text → length text ≤ most → IsFile t most text
 is_file t most text e h = subst (λ (z : Told). IsFile z most text) (sym e) (record { held = refl; short = h })
@@ -29,7 +29,7 @@ module _ (told : List ℕ → Told) where
   Come fs loads came =
       AnswersFiles {X = List (List ℕ)} (λ (texts : List (List ℕ)). texts) told (λ name. Failed name loads) fs came
 
-  stopped : (f : File) (fs : List File) (why : LoadFault) → Agrees (told f.name) (limit_of f.count) (Err why)
+  stopped : (f : File) (fs : List File) (why : LoadFault) → IsToldOfLoad (told f.name) (limit_of f.count) (Err why)
       → Come (f ∷ fs) (logged f (Err why) ∷ []) (Err (stop_of f why))
   stopped f fs fault.Failed a = loading.not_read this (here refl refl)
   stopped f fs fault.TooLong a = limited (long (may_be_longer (told f.name) (limit_of f.count) a.0 a.1 a.2))

@@ -30,7 +30,7 @@ use Rattle.altarica_run.specs.Says.{Says, usage, refuses, tells, Begins, EndsSo}
 use Rattle.altarica_run.specs.Says as says
 use Rattle.job_laws.proofs.LogsApart.{could_be_told}
 use Rattle.job_laws.proofs.LogsTold.{passes_over}
-use Rattle.job_laws.specs.Runs.{AgreesWith, Failed, here, behind, PassesOver, passes, not_read, AreApart, IsCallOf}
+use Rattle.job_laws.specs.Runs.{AgreesWith, Failed, here, behind, PassesOver, passes, not_read, AreLoadedOnce, IsCallOf}
 
 -- Words that load nothing
 
@@ -199,7 +199,7 @@ module _ (loads : List Load) (words : List (List ℕ)) (old new : SinkState) (s 
       → (c : Call) × Gave c s × IsCallOf words told loads old new c
   run_over told a = (call_over told, gave_over told a, is_call told)
 
-  pub run_apart : AreApart loads
+  pub run_apart : AreLoadedOnce loads
       → (c : Call) × Gave c s × ((name : List ℕ) → IsKnown (c.files name)) × AgreesWith c.files loads
       × IsCallOf words c.files loads old new c
   run_apart apart =

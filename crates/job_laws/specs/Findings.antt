@@ -8,7 +8,7 @@ use Rattle.ar_meaning.specs.Runs.{Label, Moment, Fire, Runs}
 use Rattle.ar_meaning.specs.TraceText.{flow_fault_text}
 use Rattle.cut_text.specs.Texts.{fault_line, labels_text}
 use Rattle.firable_families.specs.Firable.{AndUpTo}
-use Rattle.gate_modules.specs.Choices.{IsChoice, IsMadeOf, ComesFrom}
+use Rattle.gate_modules.specs.Choices.{IsChoice, IsChoiceOf, ComesFrom}
 use Rattle.gate_modules.specs.Shortened.{ShortForm}
 use Rattle.gts_flatten.specs.Flat.{naming_of}
 use Rattle.module_text.specs.Texts.{IsModuleText}
@@ -30,7 +30,7 @@ pub record AreModulesOf (c : Call) (asked : Asked) : Type 0 where
   pub is_text : IsModuleText ready.source ready.dropped has.observed has.wanted.value text
   pub made : (form : ShortForm) (choice : List (List ℕ)) → IsOneOf is_text.forms form
       → IsChoice is_text.modules form choice
-      → (set : List ℕ) × IsCut ready has set × IsMadeOf form choice set
+      → (set : List ℕ) × IsCut ready has set × IsChoiceOf form choice set
   pub whole : (set : List ℕ) → IsCut ready has set
       → (other : List ℕ) × Within set other × Within other set × ComesFrom is_text.modules is_text.forms other
   pub one : (set : List ℕ) (a b : ComesFrom is_text.modules is_text.forms set)

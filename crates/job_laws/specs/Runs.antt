@@ -17,15 +17,15 @@ use Rattle.altarica_run.specs.Follows.{Call, RoseAt, IsKnown, sink_before, sink_
 
 -- what is told of a name is what came of its load: the bytes, or more bytes than were asked for, or that there are none;
 -- of a load for which memory was refused nothing need be told
-abbrev pub Agrees : Told → ℕ → Result (List ℕ) LoadFault → Type 0
-Agrees told most (Ok bytes) = told ≡ Bytes bytes
-Agrees told most (Err fault.TooLong) = (bytes : List ℕ) × (told ≡ Bytes bytes) × (most < length bytes)
-Agrees told most (Err fault.Failed) = told ≡ Absent
-Agrees told most (Err fault.Memory) = Unit {0}
+abbrev pub IsToldOfLoad : Told → ℕ → Result (List ℕ) LoadFault → Type 0
+IsToldOfLoad told most (Ok bytes) = told ≡ Bytes bytes
+IsToldOfLoad told most (Err fault.TooLong) = (bytes : List ℕ) × (told ≡ Bytes bytes) × (most < length bytes)
+IsToldOfLoad told most (Err fault.Failed) = told ≡ Absent
+IsToldOfLoad told most (Err fault.Memory) = Unit {0}
 
 -- the same of each of these loads
 abbrev pub AgreesWith : (List ℕ → Told) → List Load → Type 0
-AgreesWith told = AllByRecursion (λ (l : Load). Agrees (told l.name) l.most l.got)
+AgreesWith told = AllByRecursion (λ (l : Load). IsToldOfLoad (told l.name) l.most l.got)
 
 -- a load of this name failed
 pub data Failed (name : List ℕ) : List Load → Type 0 where
@@ -40,8 +40,8 @@ pub data PassesOver (told : List ℕ → Told) (loads : List Load) (asked : Aske
       → PassesOver told loads asked (Err (NotRead kind))
 
 -- no name is loaded twice
-abbrev pub AreApart : List Load → Type 0
-AreApart loads = IsDistinct bytes_eq (map (λ (l : Load). l.name) loads)
+abbrev pub AreLoadedOnce : List Load → Type 0
+AreLoadedOnce loads = IsDistinct bytes_eq (map (λ (l : Load). l.name) loads)
 
 -- the call is of these words, over files of which this is told and with the sink before and after; counts of faults rose
 -- for just those names of which a load failed
@@ -55,8 +55,8 @@ pub record IsCallOf (words : List (List ℕ)) (told : List ℕ → Told) (loads 
   pub failed : (name : List ℕ) → RoseAt c name → Failed name loads
 
 -- something is told of each file of the job
-abbrev pub AreKnown : (List ℕ → Told) → Asked → Type 0
-AreKnown told asked = AllByRecursion (λ (f : File). IsKnown (told f.name)) (files_of asked)
+abbrev pub AreFilesTold : (List ℕ → Told) → Asked → Type 0
+AreFilesTold told asked = AllByRecursion (λ (f : File). IsKnown (told f.name)) (files_of asked)
 
 -- what is told, and that there is no file where nothing is told
 abbrev pub settled : Told → Told

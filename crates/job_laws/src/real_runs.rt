@@ -19,8 +19,8 @@ ghost use Rattle.job_stages.specs.declared.status.Status.{Status};
 ghost use Rattle.job_stages.specs.declared.stops.Stop.{Stop};
 ghost use Rattle.altarica_run.specs.Follows.{Call, Gave, IsKnown, IsQuiet};
 ghost use Rattle.altarica_run.specs.Reading.{EndsBy};
-ghost use Rattle.job_laws.specs.Runs.{AgreesWith, Failed, PassesOver, AreApart, IsCallOf};
-ghost use Rattle.job_laws.specs.Runs.{AreKnown, settled_call};
+ghost use Rattle.job_laws.specs.Runs.{AgreesWith, Failed, PassesOver, AreLoadedOnce, IsCallOf};
+ghost use Rattle.job_laws.specs.Runs.{AreFilesTold, settled_call};
 
 use altarica_run::laws::one_job;
 
@@ -41,7 +41,7 @@ pub fn logs_are_told()
 /// Where no name is loaded twice, a shelf could tell what the loads gave, and of each other name that
 /// there is no file.
 pub fn logs_could_be_told()
-    ensures { (loads : List Load) → AreApart loads
+    ensures { (loads : List Load) → AreLoadedOnce loads
         → (told : List ℕ → Told) × ((name : List ℕ) → IsKnown (told name)) × AgreesWith told loads }
 {}
 
@@ -59,7 +59,7 @@ pub fn runs_are_calls()
         (s : Status) → EndsBy loads words old new s → (told : List ℕ → Told) → AgreesWith told loads
         → (c : Call) × Gave c s × IsCallOf words told loads old new c }
     ensures runs_are_calls { (loads : List Load) (words : List (List ℕ)) (old new : SinkState)
-        (s : Status) → EndsBy loads words old new s → AreApart loads
+        (s : Status) → EndsBy loads words old new s → AreLoadedOnce loads
         → (c : Call) × Gave c s × ((name : List ℕ) → IsKnown (c.files name))
         × AgreesWith c.files loads × IsCallOf words c.files loads old new c }
 {}
@@ -73,8 +73,8 @@ pub fn known_files_suffice()
     ensures known { (c : Call) (name : List ℕ) → IsKnown ((settled_call c).files name) }
     ensures quiet { (c : Call) → IsQuiet c → IsQuiet (settled_call c) }
     ensures gave { (c : Call) (s : Status) (asked : Asked) → Gave c s → IsAsked c.words asked
-        → AreKnown c.files asked → Gave (settled_call c) s }
-    ensures passes { (c : Call) (asked : Asked) (x : Result Ready Refusal) → AreKnown c.files asked
+        → AreFilesTold c.files asked → Gave (settled_call c) s }
+    ensures passes { (c : Call) (asked : Asked) (x : Result Ready Refusal) → AreFilesTold c.files asked
         → Passes c.files asked x → Passes (settled_call c).files asked x }
 {
     one_job();

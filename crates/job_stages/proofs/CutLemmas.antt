@@ -6,7 +6,7 @@ use Rattle.ar_base.specs.Lists as l
 use Rattle.ar_base.proofs.Standing.{stands_one, stands_some, stands_map, one_here, along_on, along_back}
 use Rattle.ar_io.specs.Writing.{SinkState}
 use Rattle.domains.specs.declared.Value.{Value}
-use Rattle.typed_expr.specs.PairsInside.{turned}
+use Rattle.typed_expr.specs.PairsInside.{turned_pairs}
 use Rattle.typed_expr.specs.Yields.{Yields}
 use Rattle.typed_expr.specs.Kinds.{HasKind}
 use Rattle.typed_expr.specs.declared.expr.Expr.{Expr, out-Expr}
@@ -55,7 +55,7 @@ use Rattle.zdd_families.specs.Families.{Family as Sets}
 use Rattle.zdd_families.specs.Sections.{IsCounted, IsMoreThan}
 use Rattle.zdd_families.proofs.Sections.{counted_nil, IsMoreThan-weaker}
 use Rattle.zdd_families.proofs.Halves.{counted_unit}
-use Rattle.zdd_nodes.specs.Nodes.{Stored, family, IsNumber as IsNode, IsSoundStore, IsStored}
+use Rattle.zdd_nodes.specs.Nodes.{Stored, family, IsFamilyNumber as IsNode, IsSoundStore, IsStored}
 use Rattle.zdd_nodes.specs.Room.{SectionsAreStored, EachTakesANode}
 use Rattle.eq_core.specs.Ordered.{IsOrderedTable}
 use Rattle.eq_core.specs.Values.{value_at}
@@ -78,7 +78,7 @@ use Rattle.min_cuts.specs.Lines.{AreInFiringOrder}
 use Rattle.min_cuts.specs.Sizes.{count, largest}
 use Rattle.cut_text.proofs.Source.{replays as source_replays}
 use Rattle.cut_text.specs.Answers.{Prints}
-use Rattle.cut_text.specs.Printed.{edges_of, labels_in, cuts_text, conflict_text, IsForestOf}
+use Rattle.cut_text.specs.Printed.{forest_edges, labels_in, cuts_text, conflict_text, IsForestOf}
 use Rattle.check_text.specs.Texts.{IsCheckText, within_order, lines_in}
 use Rattle.cut_check.specs.Verdicts.{IsMissing}
 use Rattle.cut_check.specs.Flat.{AreVerdicts}
@@ -192,7 +192,7 @@ module _ (w : Ready) (p : GtsParts) (forest : Forest) (gates : GateTable) (is : 
 
   by_trees : IsTable (net_of p) (trees_of (number_in p) forest) (numbered seen.0.value)
       table.wanted.value (table_of gates.equations)
-  by_trees = at_observer _ seen.0 (gives.IsTableOf p forest table.wanted.value (table_of gates.equations))
+  by_trees = at_observer _ seen.0 (gives.IsTableOfParts p forest table.wanted.value (table_of gates.equations))
       seen.1 table.by_trees
 
   pub own_forest : IsForest flat w.dropped (trees_of (number_in p) forest)
@@ -250,7 +250,7 @@ module _ (w : Ready) (p : GtsParts) (forest : Forest) (gates : GateTable) (is : 
   there : IsImage (IsNumber things) w.source.system flat
   there = flat_image things w.source.system flat flat_is
 
-  behind : IsImage (turned (IsNumber things)) flat w.source.system
+  behind : IsImage (turned_pairs (IsNumber things)) flat w.source.system
   behind = flat_back things w.source.system flat flat_is
 
   abbrev own_trees : List ModeTree
@@ -260,7 +260,7 @@ module _ (w : Ready) (p : GtsParts) (forest : Forest) (gates : GateTable) (is : 
   firable_there_in : (set : List ℕ) → IsFirableOf own_trees set → IsFirableSet w.source.system w.dropped set
   firable_there_in set h =
       let f = firable_in_system flat w.dropped both.keyed both.static own_trees own_forest set h in
-      (f.0, firable_there (turned (IsNumber things)) flat w.source.system behind w.dropped f.1)
+      (f.0, firable_there (turned_pairs (IsNumber things)) flat w.source.system behind w.dropped f.1)
 
   firable_back_in : (set : List ℕ) → IsFirableSet w.source.system w.dropped set → IsFirableOf own_trees set
   firable_back_in set h =
@@ -295,7 +295,7 @@ module _ (w : Ready) (p : GtsParts) (forest : Forest) (gates : GateTable) (is : 
   free_there : IsConflictFreeUpTo w.order w.source.system w.dropped → IsConflictFreeUpTo w.order flat w.dropped
   free_there free = told_free w.order flat w.dropped (λ s u m.
       free_within w.order w.source.system w.dropped free s u s (within_self s)
-      (meets_there (turned (IsNumber things)) flat w.source.system behind w.dropped m))
+      (meets_there (turned_pairs (IsNumber things)) flat w.source.system behind w.dropped m))
 
   free_back : IsConflictFreeUpTo w.order flat w.dropped → IsConflictFreeUpTo w.order w.source.system w.dropped
   free_back free = told_free w.order w.source.system w.dropped (λ s u m.
@@ -523,28 +523,28 @@ module _ (w : Ready) (p : GtsParts) (forest : Forest) (gates : GateTable) (is : 
       → AreListed (AndUpTo w.order (ConflictSet flat w.dropped)) (set ∷ sets)
       → AreInFiringOrder (trees_of (λ n. n) forest) (set ∷ sets) (events ∷ lists)
       → (fault : FlowFault) × Conflicts flat w.dropped
-      (reverse (labels_in p (edges_of forest.trees.items) events)) fault)
+      (reverse (labels_in p (forest_edges forest.trees.items) events)) fault)
       (is_text : (set : List ℕ) (sets : List (List ℕ)) (events : List ℕ) (lists : List (List ℕ)) (fault : FlowFault)
       → AreListed (AndUpTo w.order (ConflictSet flat w.dropped)) (set ∷ sets)
       → AreInFiringOrder (trees_of (λ n. n) forest) (set ∷ sets) (events ∷ lists)
-      → Conflicts flat w.dropped (reverse (labels_in p (edges_of forest.trees.items) events)) fault
+      → Conflicts flat w.dropped (reverse (labels_in p (forest_edges forest.trees.items) events)) fault
       → IsConflictText w.order (naming_of w.source.declarations) w.source.system w.dropped
-      (conflict_text p (edges_of forest.trees.items) events fault)) where
+      (conflict_text p (forest_edges forest.trees.items) events fault)) where
     pub conflict_printed : (old new : SinkState) (r : Result (Unit {0}) PrintFault) (sets lists : List (List ℕ))
         → sets ≢ []
         → AreListed (AndUpTo w.order (ConflictSet flat w.dropped)) sets → AreInFiringOrder (trees_of (λ n. n) forest) sets lists
         → ((system : System ℕ) → Views p system
         → (dropped events : List ℕ) (later : List (List ℕ)) (fault : FlowFault)
         → lists ≡ events ∷ later
-        → Conflicts system dropped (reverse (labels_in p (edges_of forest.trees.items) events)) fault
-        → Prints old new (conflict_text p (edges_of forest.trees.items) events fault) r)
+        → Conflicts system dropped (reverse (labels_in p (forest_edges forest.trees.items) events)) fault
+        → Prints old new (conflict_text p (forest_edges forest.trees.items) events fault) r)
         → (text : List ℕ) × Tells asked w text Fault × Prints old new text r
     conflict_printed old new r sets lists some listed l.none prints = absurd (some refl)
     conflict_printed old new r sets lists some listed (l.one_and {a = set} {b = events} {xs = xs} {ys = ys} h hs)
         prints =
         let g = l.one_and h hs in
         let f = meets set xs events ys listed g in (
-          conflict_text p (edges_of forest.trees.items) events f.0,
+          conflict_text p (forest_edges forest.trees.items) events f.0,
           conflict e (is_text set xs events ys f.0 listed g f.1),
           prints flat is.flat.views w.dropped events ys f.0 refl f.1,
         )

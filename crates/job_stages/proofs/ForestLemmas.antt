@@ -4,7 +4,7 @@ use Rattle.ar_base.specs.Lists.{IsOneOf}
 use Rattle.ar_base.specs.NumbersInside.{EventId}
 use Rattle.ar_base.specs.Texts.{text_at}
 use Rattle.ar_base.proofs.Standing.{one_none}
-use Rattle.typed_expr.specs.PairsInside.{turned}
+use Rattle.typed_expr.specs.PairsInside.{turned_pairs}
 use Rattle.ar_meaning.specs.Systems.{System}
 use Rattle.ar_meaning.specs.FlatOf.{IsNumber}
 use Rattle.ar_meaning.specs.TraceText.{Naming}
@@ -41,14 +41,14 @@ module _ (x : Elaborated) (p : GtsParts) (of : IsFlat x p) (dropped : List ℕ) 
   pub source_keeps : (order : Option ℕ) → KeepsUpTo order of.flat dropped → KeepsUpTo order x.system dropped
   source_keeps order h =
       let things = variables x.declarations.model x.declarations.units in
-      keeps_asked_there (turned (IsNumber things)) of.flat x.system (flat_back things x.system of.flat of.is_flat) dropped
+      keeps_asked_there (turned_pairs (IsNumber things)) of.flat x.system (flat_back things x.system of.flat of.is_flat) dropped
       h
 
   pub source_breaks : {rule : Rule} {spot : Spot} → IsFirstBroken of.flat dropped rule spot
       → IsFirstBroken x.system dropped rule spot
   source_breaks h =
       let things = variables x.declarations.model x.declarations.units in
-      first_broken_there (turned (IsNumber things)) of.flat x.system (flat_back things x.system of.flat of.is_flat)
+      first_broken_there (turned_pairs (IsNumber things)) of.flat x.system (flat_back things x.system of.flat of.is_flat)
       dropped h
 
   pub same_path : (s : Spot) → path_in p s ≡ spot_path x s

@@ -3,7 +3,7 @@ use Rattle.std.proofs.Common.{◌≡◌, ◌≤◌, ℕ, Bool, true, false, List
 use Rattle.std.specs.Global.{Global}
 use Rattle.ar_base.specs.Counts.{limit_of}
 use Rattle.ar_io.specs.Loads.{Load}
-use Rattle.ar_io.specs.LoadsInside.{load_of}
+use Rattle.ar_io.specs.Loads.{load_of}
 use Rattle.ar_io.specs.declared.outside.LoadFault.{LoadFault}
 use Rattle.run_words.specs.declared.jobs.Asked.{Asked}
 use Rattle.job_stages.specs.Files.{File, files_of, files_where, script_files}

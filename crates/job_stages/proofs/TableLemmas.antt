@@ -75,12 +75,12 @@ module _ (p : GtsParts) (w : Ready) (f : Forest) (wanted : Wanted) (of : IsFlat 
       go table.Memory h = tt
 
   pub table_given : IsSound p → wanted.observer < length p.observers.items → (q : Equations)
-      → AtObserver (slice_get p.observers.items wanted.observer) (gives.IsTableOf p f wanted.value (table_of q))
+      → AtObserver (slice_get p.observers.items wanted.observer) (gives.IsTableOfParts p f wanted.value (table_of q))
       → length q.gates.items ≤ most_gates → (made : GateTable) → made.equations ≡ q
       → made.events.items ≡ (naming_of_parts p).events
       → IsStageOf (IsGateTable p f) (Tabled w) (Ok made)
   table_given sound inside q h few made e names =
-      let is = of_source (table_of q) (at_observer _ at.0 (gives.IsTableOf p f wanted.value (table_of q)) at.1 h) in
+      let is = of_source (table_of q) (at_observer _ at.0 (gives.IsTableOfParts p f wanted.value (table_of q)) at.1 h) in
       let many = length-map q.gates.items gate_of in (
         w,
         fits are is (omega (arith, few, many)),
@@ -91,7 +91,7 @@ module _ (p : GtsParts) (w : Ready) (f : Forest) (wanted : Wanted) (of : IsFlat 
           inside = inside;
           is_table = subst (λ (z : Equations). IsTableOf w.source w.dropped wanted (table_of z)) (sym e) is;
           by_trees = subst (λ (z : Equations). AtObserver (slice_get p.observers.items wanted.observer)
-              (gives.IsTableOf p f wanted.value (table_of z))) (sym e) h;
+              (gives.IsTableOfParts p f wanted.value (table_of z))) (sym e) h;
           events = names;
         },
       )

@@ -245,7 +245,7 @@ pub record IsGateTable (p : GtsParts) (forest : Forest) (w : Ready) (t : GateTab
   pub inside : wanted.observer < length p.observers.items
   pub is_table : IsTableOf w.source w.dropped wanted (table_of t.equations)
   pub by_trees : AtObserver (slice_get p.observers.items wanted.observer)
-      (gate_tables.IsTableOf p forest wanted.value (table_of t.equations))
+      (gate_tables.IsTableOfParts p forest wanted.value (table_of t.equations))
   pub events : t.events.items ≡ (naming_of_parts p).events
 
 -- the system, its forest and its gate table are those of what stands ready

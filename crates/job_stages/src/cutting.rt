@@ -1,7 +1,7 @@
 //! The diagrams of a gate table, and the texts of `cuts`, of a conflict, and of too few nodes.
 
 ghost use Rattle.std.specs.Prelude.{◌≡◌, ◌≤◌, true};
-ghost use Rattle.ar_io.specs.WritingInside.{Writes};
+ghost use Rattle.ar_io.specs.Handing.{Writes};
 ghost use Rattle.gts_core.specs.declared.system.GtsParts.{GtsParts};
 ghost use Rattle.run_words.specs.declared.jobs.Asked.{Asked};
 ghost use Rattle.run_words.specs.declared.verbs.Verb.TheVariants.{Cuts as CutsAsked};

@@ -1,7 +1,7 @@
 //! The statuses of texts, the line of a refusal, and the text of `check`.
 
 ghost use Rattle.std.specs.Prelude.{◌≡◌, ◌++◌, decimal, length};
-ghost use Rattle.ar_io.specs.WritingInside.{Writes};
+ghost use Rattle.ar_io.specs.Handing.{Writes};
 ghost use Rattle.job_stages.specs.Refusals.{line_of, status_of};
 ghost use Rattle.job_stages.specs.Telling.{IsWritten, status_written, status_replayed, status_printed, status_explained};
 ghost use Rattle.job_stages.specs.Tells.{counts_line};

@@ -4,11 +4,11 @@ use Rattle.std.specs.Int.{bit_at}
 use Rattle.std.proofs.lemmas.Nat.Bits.{bit_at_or, bit_at-lt, bit_at-zero, same_from_bits}
 use Rattle.std.proofs.lemmas.Bool.{cases_lt}
 use Rattle.std.proofs.lemmas.List.{get_or_past}
-use Rattle.lane_rows.specs.Rows.{or_at, Covers, CoversBetween}
+use Rattle.lane_rows.specs.Rows.{or_at, CoversBits, CoversBetween}
 
 module _ (big small : List ℕ) (same_length : length big ≡ length small) where
   -- where the or with `small` changes no word, each bit is there
-  pub covers_all : (covered : CoversBetween big small 0 (length big) true) → Covers big small
+  pub covers_all : (covered : CoversBetween big small 0 (length big) true) → CoversBits big small
   covers_all covered k i set = elim (cases_lt k (length big)) [
     | inl below ↦
         let whole : or_at big small k ≡ slice_index big k = covered.all refl k (omega arith) below in
@@ -24,7 +24,7 @@ module _ (big small : List ℕ) (same_length : length big ≡ length small) wher
   ]
 
   -- where each bit is there, the or changes no word
-  pub covers_none : Covers big small → (k : ℕ) → or_at big small k ≡ slice_index big k
+  pub covers_none : CoversBits big small → (k : ℕ) → or_at big small k ≡ slice_index big k
   covers_none covers k = same_from_bits (or_at big small k) (slice_index big k) (λ i.
       let both : bit_at (or_at big small k) i ≡ max (bit_at (slice_index big k) i) (bit_at (slice_index small k) i) =
       bit_at_or (slice_index big k) (slice_index small k) i in
@@ -35,13 +35,13 @@ module _ (big small : List ℕ) (same_length : length big ≡ length small) wher
       ])
 
   -- a word that is not covered keeps the row from being covered
-  pub not_covered : (k : ℕ) → or_at big small k ≢ slice_index big k → Covers big small → ⊥
+  pub not_covered : (k : ℕ) → or_at big small k ≢ slice_index big k → CoversBits big small → ⊥
   not_covered k differs covers = differs (covers_none covers k)
 
   -- what the words up to a place and those behind it say together
   pub covers_whole : (at : ℕ) (rest : Bool) → CoversBetween big small 0 at true
       → CoversBetween big small at (length big) rest
-      → (IsTrue rest → Covers big small) × (Covers big small → IsTrue rest)
+      → (IsTrue rest → CoversBits big small) × (CoversBits big small → IsTrue rest)
   covers_whole at true first rest = (
     (λ _. covers_all (record {
       all = λ _ k low high. elim (cases_lt k at)

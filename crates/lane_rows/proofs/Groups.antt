@@ -2,7 +2,7 @@
 use Rattle.std.proofs.Common.{◌≡◌, ◌≢◌, ℕ, zero, suc, ◌+◌, ◌-◌, ◌^◌, ◌%◌, ◌<◌, ◌≤◌, inl, inr, Bool, true, false, not, nat_eq, List, [], ◌∷◌, length, get_or, bit_or, slice_index, refl, sym, ap, ◌∙◌, subst, arith, true≢false, eqb-true, eq-eqb}
 use Rattle.std.proofs.lemmas.Simd.{length-zip2, length-chunk, get_or-chunk, get_or-put_chunk_below, get_or-put_chunk_at, get_or-put_chunk_above, get_or-zip2, mask_l-mod}
 use Rattle.std.specs.Simd.Lanes.{zip2, chunk, put_chunk, mask_l}
-use Rattle.lane_rows.specs.Rows.{or_at, Tells, IsOrBetween, CoversBetween}
+use Rattle.lane_rows.specs.Rows.{or_at, TellsDifference, IsOrBetween, CoversBetween}
 
 -- the or of a group differs from no word of it, or from one
 pub record MatchesMask (xs ys : List ℕ) (at : ℕ) (same : Bool) : Type 0 where
@@ -111,7 +111,7 @@ module _ (xs ys : List ℕ) (at : ℕ) (in_xs : at + 4 ≤ length xs) (in_ys : a
       }
 
 -- a mask as the truths of a group
-pub tells_of : (xs ys : List ℕ) (at : ℕ) (same : Bool) → MatchesMask xs ys at same → Tells xs ys at (at + 4) (not same)
+pub tells_of : (xs ys : List ℕ) (at : ℕ) (same : Bool) → MatchesMask xs ys at same → TellsDifference xs ys at (at + 4) (not same)
 tells_of xs ys at true m = record {
   some = λ e. absurd (true≢false (sym e));
   none = λ e k low high.

@@ -15,11 +15,11 @@ abbrev pub or_at : List ℕ → List ℕ → ℕ → ℕ
 or_at xs ys k = bit_or (slice_index xs k) (slice_index ys k)
 
 -- each bit that is set in `small` is set in `big`
-abbrev pub Covers : List ℕ → List ℕ → Type 0
-Covers big small = (k i : ℕ) → bit_at (slice_index small k) i ≡ 1 → bit_at (slice_index big k) i ≡ 1
+abbrev pub CoversBits : List ℕ → List ℕ → Type 0
+CoversBits big small = (k i : ℕ) → bit_at (slice_index small k) i ≡ 1 → bit_at (slice_index big k) i ≡ 1
 
 -- of the words from place `from` on and below `to`, the or with `other` differs from some, or from none
-pub record Tells (row other : List ℕ) (from to : ℕ) (differs : Bool) : Type 0 where
+pub record TellsDifference (row other : List ℕ) (from to : ℕ) (differs : Bool) : Type 0 where
   pub some : differs ≡ true → (k : ℕ) × (from ≤ k) × (k < to) × (or_at row other k ≢ slice_index row k)
   pub none : differs ≡ false → (k : ℕ) → from ≤ k → k < to → or_at row other k ≡ slice_index row k
 

@@ -3,7 +3,7 @@
 #![tactic(auto)]
 
 ghost use Rattle.std.specs.Prelude.{◌≡◌, ◌≢◌, ℕ, ◌+◌, ◌/◌, ◌≤◌, ◌<◌, ◌⊎◌, ◌↔◌, ◌||◌, IsTrue, length, slice_index, false};
-ghost use Rattle.lane_rows.specs.Rows.{IsSet, or_at, Covers, Tells, IsOrBetween, CoversBetween};
+ghost use Rattle.lane_rows.specs.Rows.{IsSet, or_at, CoversBits, TellsDifference, IsOrBetween, CoversBetween};
 
 use std::simd::prelude::*;
 
@@ -63,7 +63,7 @@ fn or_words(row: &mut [u64], with: &[u64], at: usize) -> bool
     requires long { length row.old ≡ length with.now }
     requires within { at ≤ length row.old }
     ensures or { IsOrBetween row.old with.now row.new at (length row.old) }
-    ensures tells { Tells row.old with.now at (length row.old) result }
+    ensures tells { TellsDifference row.old with.now at (length row.old) result }
 {
     let mut changed = false;
     for i in at..row.len() {
@@ -80,7 +80,7 @@ fn or_lanes(row: &mut [u64], with: &[u64], at: usize) -> bool
     requires row { at + 4 ≤ length row.old }
     requires with { at + 4 ≤ length with.now }
     ensures or { IsOrBetween row.old with.now row.new at (at + 4) }
-    ensures tells { Tells row.old with.now at (at + 4) result }
+    ensures tells { TellsDifference row.old with.now at (at + 4) result }
 {
     let old = u64x4::from_slice(&row[at..]);
     let new = old | u64x4::from_slice(&with[at..]);
@@ -92,7 +92,7 @@ fn or_lanes(row: &mut [u64], with: &[u64], at: usize) -> bool
 /// Whether each bit that is set in `small` is set in `big`. Takes no memory.
 pub fn covers(big: &[u64], small: &[u64]) -> bool
     requires { length big.now ≡ length small.now }
-    ensures { IsTrue result ↔ Covers big.now small.now }
+    ensures { IsTrue result ↔ CoversBits big.now small.now }
 {
     let mut at = 0;
     while at + LANES <= big.len() {

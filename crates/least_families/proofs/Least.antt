@@ -11,7 +11,7 @@ use Rattle.zdd_families.proofs.Laws.{within-both, within-more, within-not, has_e
 use Rattle.zdd_families.proofs.Members.{within_law, has-without}
 use Rattle.zdd_families.proofs.Minimal.{within-through}
 use Rattle.diagram_steps.proofs.PutIn.{Above, has_node, has_lower, has_upper, above_each, each_above}
-use Rattle.least_families.specs.Least.{covers, AreApart, AreLeast, AreLeastUpTo}
+use Rattle.least_families.specs.Least.{covers, AreIncomparable, AreLeast, AreLeastUpTo}
 use Rattle.least_families.proofs.Covering.{covers_from, covers_self, covered, covers_more, covers_node, covers_without, over, over_within, over_above, covers_over}
 
 -- ---- what a least set is
@@ -39,11 +39,11 @@ least_above f v a p t = each_above v f (λ s h.
         by (y ∷ s) k = (k y (one_first y s), by s (λ x o. k x (one_rest y s x o)))
 
 -- ---- halves
-pub apart_lower : (v : ℕ) (lo hi : Family) → AreApart (node v lo hi) → AreApart lo
+pub apart_lower : (v : ℕ) (lo hi : Family) → AreIncomparable (node v lo hi) → AreIncomparable lo
 apart_lower v lo hi a =
     record { least = λ s t h k w. a.least s t (has_lower v lo hi s h) (has_lower v lo hi t k) w }
 
-pub apart_upper : (v : ℕ) (lo hi : Family) → IsAbove v lo → IsAbove v hi → AreApart (node v lo hi) → AreApart hi
+pub apart_upper : (v : ℕ) (lo hi : Family) → IsAbove v lo → IsAbove v hi → AreIncomparable (node v lo hi) → AreIncomparable hi
 apart_upper v lo hi la ha a = record {
   least = λ s t h k w.
       let x = a.least (v ∷ s) (v ∷ t) (has_upper v lo hi s la h) (has_upper v lo hi t la k)
@@ -52,7 +52,7 @@ apart_upper v lo hi la ha a = record {
 }
 
 -- ---- a node of least sets
-module _ (v : ℕ) (lo hi : Family) (la : IsAbove v lo) (ha : IsAbove v hi) (l : AreApart lo) (h : AreApart hi)
+module _ (v : ℕ) (lo hi : Family) (la : IsAbove v lo) (ha : IsAbove v hi) (l : AreIncomparable lo) (h : AreIncomparable hi)
     (free : (t : List ℕ) → has hi t ≡ true → covers lo t ≡ true → ⊥) where
   apart_node_by : (s t : List ℕ)
       → ((u : List ℕ) × (s ≡ v ∷ u) × (has hi u ≡ true)) ⊎ (has lo s ≡ true)
@@ -70,11 +70,11 @@ module _ (v : ℕ) (lo hi : Family) (la : IsAbove v lo) (ha : IsAbove v hi) (l :
       (sym (within-more v s b.0 (above_each v lo s la k)) ∙ ap (λ x. within s x) (sym b.1) ∙ w)))
   apart_node_by s t (inr j) (inr k) w = l.least s t j k w
 
-  pub apart_node : AreApart (node v lo hi)
+  pub apart_node : AreIncomparable (node v lo hi)
   apart_node = record { least = λ s t i j w. apart_node_by s t (has_node v lo hi s i) (has_node v lo hi t j) w }
 
 module _ (order : Option ℕ) (test below : List ℕ → Bool) (v : ℕ) (lo hi : Family) (la : IsAbove v lo)
-    (ha : IsAbove v hi) (l : AreLeastUpTo order below lo) (h : AreApart hi)
+    (ha : IsAbove v hi) (l : AreLeastUpTo order below lo) (h : AreIncomparable hi)
     (free : (t : List ℕ) → has hi t ≡ true → covers lo t ≡ true → ⊥)
     (few : (t : List ℕ) → has hi t ≡ true → UpTo order (v ∷ t))
     (low : (s : List ℕ) → UpTo order s → holds v s ≡ false → test s ≡ below s)
@@ -101,12 +101,12 @@ without_part h lo t i = (and_parts (has h t) _ (sym (has-without h lo t) ∙ i))
 pub without_free : (h lo : Family) (t : List ℕ) → has (without h lo) t ≡ true → covers lo t ≡ true → ⊥
 without_free h lo t i c = not_true (covers lo t) (and_parts (has h t) _ (sym (has-without h lo t) ∙ i)).1 c
 
-pub apart_without : (h lo : Family) → AreApart h → AreApart (without h lo)
+pub apart_without : (h lo : Family) → AreIncomparable h → AreIncomparable (without h lo)
 apart_without h lo a =
     record { least = λ s t i j w. a.least s t (without_part h lo s i) (without_part h lo t j) w }
 
 module _ (order : Option ℕ) (test below : List ℕ → Bool) (v : ℕ) (lo h : Family) (la : IsAbove v lo)
-    (ha : IsAbove v (without h lo)) (l : AreLeastUpTo order below lo) (a : AreApart h)
+    (ha : IsAbove v (without h lo)) (l : AreLeastUpTo order below lo) (a : AreIncomparable h)
     (few : (t : List ℕ) → has h t ≡ true → UpTo order (v ∷ t))
     (low : (s : List ℕ) → UpTo order s → holds v s ≡ false → test s ≡ below s)
     (high : (s : List ℕ) → UpTo order s → holds v s ≡ true → test s ≡ (covers h s || covers lo s)) where

@@ -6,14 +6,14 @@ use Rattle.ar_firing.specs.CutsInside.{UpTo}
 use Rattle.zdd_families.specs.Families.{Family, has, same, within, without}
 use Rattle.zdd_families.specs.FamiliesInside.{node, IsAbove}
 use Rattle.zdd_families.proofs.Laws.{same-refl, IsAbove-without}
-use Rattle.zdd_nodes.specs.Nodes.{NodeId, Stored, at, family, IsNumber, IsNode, IsSoundStore}
+use Rattle.zdd_nodes.specs.Nodes.{NodeId, Stored, at, family, IsFamilyNumber, IsNode, IsSoundStore}
 use Rattle.diagram_steps.specs.Putting.{Extends}
 use Rattle.diagram_steps.proofs.Growing.{extends_then, kept, still}
 use Rattle.least_families.specs.declared.halves.Halves.{Halves}
-use Rattle.least_families.specs.Least.{covers, AreApart, AreLeast, AreLeastUpTo}
-use Rattle.least_families.specs.Halves.{AreHalves}
+use Rattle.least_families.specs.Least.{covers, AreIncomparable, AreLeast, AreLeastUpTo}
+use Rattle.least_families.specs.Halves.{AreLeastHalves}
 use Rattle.least_families.specs.declared.memo.Operation.TheVariants.{Union, Product, Few}
-use Rattle.least_families.specs.Held.{IsResult, IsUnionKnown}
+use Rattle.least_families.specs.Held.{IsLeastResult, IsUnionKnown}
 use Rattle.least_families.specs.Kept.{IsOperand, IsLeastOf}
 use Rattle.least_families.proofs.Covering.{covers_self, fewer, up_to_none}
 use Rattle.least_families.proofs.Least.{apart_lower, apart_upper}
@@ -23,7 +23,7 @@ use Rattle.least_families.proofs.Upper.{union_node, union_above, product_node, p
 pub operand_kept : (s t : Stored) (n : ℕ) → Extends s t → IsOperand s n → IsOperand t n
 operand_kept s t n g o = record {
   in_store = still s t n g o.in_store;
-  apart = subst AreApart (sym (kept s t n g o.in_store)) o.apart;
+  apart = subst AreIncomparable (sym (kept s t n g o.in_store)) o.apart;
 }
 
 pub least_kept : (order : Option ℕ) (test : List ℕ → Bool) (s t : Stored) (n : ℕ) → Extends s t
@@ -36,50 +36,50 @@ least_kept order test s t n g l = record {
 pub operand_of : (order : Option ℕ) (test : List ℕ → Bool) (s : Stored) (n : ℕ) → IsLeastOf order test s n → IsOperand s n
 operand_of order test s n l = record { in_store = l.in_store; apart = l.least.apart }
 
-pub union_old : (order : Option ℕ) (s t u : Stored) (f g n : ℕ) → Extends s t → IsNumber s f → IsNumber s g
+pub union_old : (order : Option ℕ) (s t u : Stored) (f g n : ℕ) → Extends s t → IsFamilyNumber s f → IsFamilyNumber s g
     → IsLeastOf order (λ x. covers (family t f) x || covers (family t g) x) u n
     → IsLeastOf order (λ x. covers (family s f) x || covers (family s g) x) u n
 union_old order s t u f g n e a b l =
     subst (λ y. IsLeastOf order (λ x. covers y x || covers (family s g) x) u n) (kept s t f e a)
     (subst (λ y. IsLeastOf order (λ x. covers (family t f) x || covers y x) u n) (kept s t g e b) l)
 
-pub product_old : (order : Option ℕ) (s t u : Stored) (f g n : ℕ) → Extends s t → IsNumber s f → IsNumber s g
+pub product_old : (order : Option ℕ) (s t u : Stored) (f g n : ℕ) → Extends s t → IsFamilyNumber s f → IsFamilyNumber s g
     → IsLeastOf order (λ x. covers (family t f) x && covers (family t g) x) u n
     → IsLeastOf order (λ x. covers (family s f) x && covers (family s g) x) u n
 product_old order s t u f g n e a b l =
     subst (λ y. IsLeastOf order (λ x. covers y x && covers (family s g) x) u n) (kept s t f e a)
     (subst (λ y. IsLeastOf order (λ x. covers (family t f) x && covers y x) u n) (kept s t g e b) l)
 
-pub few_old : (order : Option ℕ) (s t u : Stored) (f n : ℕ) → Extends s t → IsNumber s f
+pub few_old : (order : Option ℕ) (s t u : Stored) (f n : ℕ) → Extends s t → IsFamilyNumber s f
     → IsLeastOf order (covers (family t f)) u n → IsLeastOf order (covers (family s f)) u n
 few_old order s t u f n e a l = subst (λ y. IsLeastOf order (covers y) u n) (kept s t f e a) l
 
 -- ---- halves
-module _ (s : Stored) (f g : ℕ) (h : Halves) (cut : AreHalves s.families f g h) where
+module _ (s : Stored) (f g : ℕ) (h : Halves) (cut : AreLeastHalves s.families f g h) where
   pub f0_operand : IsOperand s f → IsOperand s h.f0.n
   f0_operand o = record {
     in_store = cut.f0_in;
-    apart = apart_lower h.event.n (family s h.f0.n) (family s h.f1.n) (subst AreApart cut.f_is o.apart);
+    apart = apart_lower h.event.n (family s h.f0.n) (family s h.f1.n) (subst AreIncomparable cut.f_is o.apart);
   }
 
   pub f1_operand : IsOperand s f → IsOperand s h.f1.n
   f1_operand o = record {
     in_store = cut.f1_in;
     apart = apart_upper h.event.n (family s h.f0.n) (family s h.f1.n) cut.f0_above cut.f1_above
-        (subst AreApart cut.f_is o.apart);
+        (subst AreIncomparable cut.f_is o.apart);
   }
 
   pub g0_operand : IsOperand s g → IsOperand s h.g0.n
   g0_operand o = record {
     in_store = cut.g0_in;
-    apart = apart_lower h.event.n (family s h.g0.n) (family s h.g1.n) (subst AreApart cut.g_is o.apart);
+    apart = apart_lower h.event.n (family s h.g0.n) (family s h.g1.n) (subst AreIncomparable cut.g_is o.apart);
   }
 
   pub g1_operand : IsOperand s g → IsOperand s h.g1.n
   g1_operand o = record {
     in_store = cut.g1_in;
     apart = apart_upper h.event.n (family s h.g0.n) (family s h.g1.n) cut.g0_above cut.g1_above
-        (subst AreApart cut.g_is o.apart);
+        (subst AreIncomparable cut.g_is o.apart);
   }
 
 -- numbers that come to less
@@ -100,7 +100,7 @@ none_least order test f e h = subst (AreLeastUpTo order test) (sym e) (record {
 })
 
 -- the sets of a family of which no set lies within another, where each is small
-pub itself_least : (order : Option ℕ) (f : Family) → AreApart f → ((s : List ℕ) → has f s ≡ true → UpTo order s)
+pub itself_least : (order : Option ℕ) (f : Family) → AreIncomparable f → ((s : List ℕ) → has f s ≡ true → UpTo order s)
     → AreLeastUpTo order (covers f) f
 itself_least order f a e = record { apart = a; each = e; at = λ s u. refl }
 
@@ -108,7 +108,7 @@ empty_up_to : (order : Option ℕ) → UpTo order []
 empty_up_to None = tt
 empty_up_to (Some k) = record { list = []; within = record { each = λ e o. o }; few = omega arith }
 
-pub small_least : (order : Option ℕ) (fs : List Family) (n : ℕ) → n < 2 → AreApart (at fs n)
+pub small_least : (order : Option ℕ) (fs : List Family) (n : ℕ) → n < 2 → AreIncomparable (at fs n)
     → AreLeastUpTo order (covers (at fs n)) (at fs n)
 small_least order fs zero h a = itself_least order (at fs 0) a (λ s i. absurd (true≢false (sym i)))
 small_least order fs (suc zero) h a = itself_least order (at fs 1) a (λ s i. by s i)
@@ -119,12 +119,12 @@ small_least order fs (suc zero) h a = itself_least order (at fs 1) a (λ s i. by
 small_least order fs (suc (suc n)) h a = absurd (omega (arith, h))
 
 -- no set without members has one of a node's sets in it
-pub spent : (fs : List Family) (n event lo hi : ℕ) → IsNode fs n event lo hi → AreApart (at fs n) → (s : List ℕ)
+pub spent : (fs : List Family) (n event lo hi : ℕ) → IsNode fs n event lo hi → AreIncomparable (at fs n) → (s : List ℕ)
     → UpTo (Some 0) s → covers (at fs n) s ≡ false
 spent fs n event lo hi i a s u =
     let t = some_set (at fs hi) i.hi_some in
     subst (λ x. covers x s ≡ false) (sym i.is)
-    (none_spent event (at fs lo) (at fs hi) [] [] i.lo_above (subst AreApart i.is a) t.0 t.1 s u)
+    (none_spent event (at fs lo) (at fs hi) [] [] i.lo_above (subst AreIncomparable i.is a) t.0 t.1 s u)
 
 -- ---- unions that are known
 pub union_one : (s : Stored) (f g n : ℕ) → IsOperand s f → IsOperand s g → IsUnionKnown f g n
@@ -142,7 +142,7 @@ union_one s f g n a b k = ⊎_elim
     }
 
 -- ---- a step of a union
-module _ (s t u v : Stored) (f g : ℕ) (h : Halves) (cut : AreHalves s.families f g h) (lo with hi : ℕ)
+module _ (s t u v : Stored) (f g : ℕ) (h : Halves) (cut : AreLeastHalves s.families f g h) (lo with hi : ℕ)
     (g1 : Extends s t) (g2 : Extends t u) (g3 : Extends u v)
     (l : IsLeastOf None (λ x. covers (family s h.f0.n) x || covers (family s h.g0.n) x) t lo)
     (k : IsLeastOf None (λ x. covers (family t h.f1.n) x || covers (family t h.g1.n) x) u with)
@@ -163,7 +163,7 @@ module _ (s t u v : Stored) (f g : ℕ) (h : Halves) (cut : AreHalves s.families
       (union_above None h.event.n (family s h.f1.n) (family s h.g1.n) (family u with) cut.f1_above cut.g1_above
       union_upper.least))
 
-  pub union_made : (z : Stored) (n : ℕ) → IsNumber z n → family z n ≡ node h.event.n (family v lo) (family v hi)
+  pub union_made : (z : Stored) (n : ℕ) → IsFamilyNumber z n → family z n ≡ node h.event.n (family v lo) (family v hi)
       → IsLeastOf None (λ x. covers (family s f) x || covers (family s g) x) z n
   union_made z n i e = record {
     in_store = i;
@@ -182,7 +182,7 @@ module _ (s t u v : Stored) (f g : ℕ) (h : Halves) (cut : AreHalves s.families
 
 -- ---- a step of what is small
 module _ (s t u : Stored) (order : Option ℕ) (f event f0 f1 lo hi : ℕ) (i : IsNode s.families f event f0 f1)
-    (f_in : IsNumber s f) (left : order ≡ Some 0 → ⊥) (g1 : Extends s t) (g2 : Extends t u)
+    (f_in : IsFamilyNumber s f) (left : order ≡ Some 0 → ⊥) (g1 : Extends s t) (g2 : Extends t u)
     (l : IsLeastOf order (covers (family s f0)) t lo) (k : IsLeastOf (fewer order) (covers (family t f1)) u hi) where
   few_lower : IsLeastOf order (covers (family s f0)) u lo
   few_lower = least_kept order (covers (family s f0)) t u lo g2 l
@@ -196,14 +196,14 @@ module _ (s t u : Stored) (order : Option ℕ) (f event f0 f1 lo hi : ℕ) (i : 
   pub few_hi_above : IsAbove event (family u hi)
   few_hi_above = few_above (fewer order) event (family s f1) (family u hi) i.hi_above few_higher.least
 
-  pub few_made : (z : Stored) (n : ℕ) → AreApart (family s f) → IsNumber z n
+  pub few_made : (z : Stored) (n : ℕ) → AreIncomparable (family s f) → IsFamilyNumber z n
       → family z n ≡ node event (family u lo) (family u hi) → IsLeastOf order (covers (family s f)) z n
   few_made z n a j e = record {
     in_store = j;
     least = subst (AreLeastUpTo order (covers (family s f))) (sym e)
         (subst (λ y. AreLeastUpTo order (covers y) (node event (family u lo) (family u hi))) (sym i.is)
         (few_node event (family s f0) (family s f1) [] [] order left (family u lo) (family u hi) i.lo_above i.hi_above
-        (subst AreApart i.is a) few_lower.least few_higher.least));
+        (subst AreIncomparable i.is a) few_lower.least few_higher.least));
   }
 
 pub few_operands : (s t : Stored) (f event f0 f1 : ℕ) → IsNode s.families f event f0 f1 → IsOperand s f → Extends s t
@@ -211,11 +211,11 @@ pub few_operands : (s t : Stored) (f event f0 f1 : ℕ) → IsNode s.families f 
 few_operands s t f event f0 f1 i o g = (
   record {
     in_store = let b = i.lo_before in let h = o.in_store in omega (arith, b, h);
-    apart = apart_lower event (family s f0) (family s f1) (subst AreApart i.is o.apart);
+    apart = apart_lower event (family s f0) (family s f1) (subst AreIncomparable i.is o.apart);
   },
   operand_kept s t f1 g (record {
     in_store = let b = i.hi_before in let h = o.in_store in omega (arith, b, h);
-    apart = apart_upper event (family s f0) (family s f1) i.lo_above i.hi_above (subst AreApart i.is o.apart);
+    apart = apart_upper event (family s f0) (family s f1) i.lo_above i.hi_above (subst AreIncomparable i.is o.apart);
   }),
 )
 
@@ -230,7 +230,7 @@ pub record AreParts (order : Option ℕ) (f0 f1 g0 g1 lo both first second eithe
   pub k : AreLeastUpTo None (λ s. covers both s || covers either s) h
 
 module _ (order less : Option ℕ) (less_is : less ≡ fewer order) (s t0 t1 t2 t3 t4 t5 : Stored) (f g : ℕ) (h : Halves)
-    (cut : AreHalves s.families f g h) (lo both first second either with : ℕ) (g0 : Extends s t0) (g1 : Extends t0 t1)
+    (cut : AreLeastHalves s.families f g h) (lo both first second either with : ℕ) (g0 : Extends s t0) (g1 : Extends t0 t1)
     (g2 : Extends t1 t2) (g3 : Extends t2 t3) (g4 : Extends t3 t4) (g5 : Extends t4 t5)
     (l : IsLeastOf order (λ x. covers (family s h.f0.n) x && covers (family s h.g0.n) x) t0 lo)
     (l11 : IsLeastOf less (λ x. covers (family t0 h.f1.n) x && covers (family t0 h.g1.n) x) t1 both)
@@ -284,7 +284,7 @@ module _ (order less : Option ℕ) (less_is : less ≡ fewer order) (s t0 t1 t2 
         (family t5 lo) (family t4 both) (family t3 first) (family t3 second) (family t4 either) (family t5 with)
         cut.f0_above cut.f1_above cut.g0_above cut.g1_above parts.l parts.p11 parts.p10 parts.p01 parts.e parts.k))
 
-    pub product_made : (z : Stored) (n : ℕ) → IsNumber z n
+    pub product_made : (z : Stored) (n : ℕ) → IsFamilyNumber z n
         → family z n ≡ node h.event.n (family v lo) (family v hi)
         → IsLeastOf order (λ x. covers (family s f) x && covers (family s g) x) z n
     product_made z n i e = record {
@@ -302,16 +302,16 @@ module _ (order less : Option ℕ) (less_is : less ≡ fewer order) (s t0 t1 t2 
     }
 
 -- ---- what is held of a step
-pub few_result : (s z : Stored) (f : NodeId) (most n : ℕ) → Extends s z → IsNumber s f.n
-    → IsLeastOf (Some most) (covers (family s f.n)) z n → IsResult z.families (Few f most) n
+pub few_result : (s z : Stored) (f : NodeId) (most n : ℕ) → Extends s z → IsFamilyNumber s f.n
+    → IsLeastOf (Some most) (covers (family s f.n)) z n → IsLeastResult z.families (Few f most) n
 few_result s z f most n g i l = record {
   operands = still s z f.n g i;
   in_store = l.in_store;
   is = subst (λ y. AreLeastUpTo (Some most) (covers y) (family z n)) (sym (kept s z f.n g i)) l.least;
 }
 
-pub union_result : (s z : Stored) (f g : NodeId) (n : ℕ) → Extends s z → IsNumber s f.n → IsNumber s g.n
-    → IsLeastOf None (λ x. covers (family s f.n) x || covers (family s g.n) x) z n → IsResult z.families (Union f g) n
+pub union_result : (s z : Stored) (f g : NodeId) (n : ℕ) → Extends s z → IsFamilyNumber s f.n → IsFamilyNumber s g.n
+    → IsLeastOf None (λ x. covers (family s f.n) x || covers (family s g.n) x) z n → IsLeastResult z.families (Union f g) n
 union_result s z f g n e i j l = record {
   operands = (still s z f.n e i, still s z g.n e j);
   in_store = l.in_store;
@@ -320,9 +320,9 @@ union_result s z f g n e i j l = record {
       l.least);
 }
 
-pub product_result : (s z : Stored) (f g : NodeId) (order : Option ℕ) (n : ℕ) → Extends s z → IsNumber s f.n
-    → IsNumber s g.n → IsLeastOf order (λ x. covers (family s f.n) x && covers (family s g.n) x) z n
-    → IsResult z.families (Product f g order) n
+pub product_result : (s z : Stored) (f g : NodeId) (order : Option ℕ) (n : ℕ) → Extends s z → IsFamilyNumber s f.n
+    → IsFamilyNumber s g.n → IsLeastOf order (λ x. covers (family s f.n) x && covers (family s g.n) x) z n
+    → IsLeastResult z.families (Product f g order) n
 product_result s z f g order n e i j l = record {
   operands = (still s z f.n e i, still s z g.n e j);
   in_store = l.in_store;

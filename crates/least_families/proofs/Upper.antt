@@ -10,7 +10,7 @@ use Rattle.zdd_families.proofs.Laws.{IsAbove-without, within-more, holds-above}
 use Rattle.zdd_families.proofs.Members.{within_law}
 use Rattle.zdd_families.proofs.Minimal.{within-through}
 use Rattle.diagram_steps.proofs.PutIn.{Above, has_lower, has_upper, above_each}
-use Rattle.least_families.specs.Least.{covers, AreApart, AreLeast, AreLeastUpTo}
+use Rattle.least_families.specs.Least.{covers, AreIncomparable, AreLeast, AreLeastUpTo}
 use Rattle.least_families.proofs.Covering.{covers_from, covers_self, covered, covers_more, covers_node, over, over_within, covers_over, fewer, up_to_part, up_to_over, up_to_with, up_to_more, up_to_none}
 use Rattle.least_families.proofs.Least.{least_within, least_above, least_node, least_without}
 
@@ -132,7 +132,7 @@ module _ (v : ℕ) (f0 f1 g0 g1 : Family) where
 
   -- ---- few members
   module _ (order : Option ℕ) (left : order ≡ Some 0 → ⊥) (lo hi : Family) (a0 : IsAbove v f0) (a1 : IsAbove v f1)
-      (apart : AreApart (node v f0 f1)) (l : AreLeastUpTo order (covers f0) lo)
+      (apart : AreIncomparable (node v f0 f1)) (l : AreLeastUpTo order (covers f0) lo)
       (k : AreLeastUpTo (fewer order) (covers f1) hi) where
     free : (t : List ℕ) → has hi t ≡ true → covers lo t ≡ true → ⊥
     free t i c =
@@ -168,7 +168,7 @@ module _ (v : ℕ) (f0 f1 g0 g1 : Family) where
         (sym (l.at s u)))
 
   -- no set of no members has one in it, where there is one with v
-  pub none_spent : IsAbove v f0 → AreApart (node v f0 f1) → (t : List ℕ) → has f1 t ≡ true → (s : List ℕ)
+  pub none_spent : IsAbove v f0 → AreIncomparable (node v f0 f1) → (t : List ℕ) → has f1 t ≡ true → (s : List ℕ)
       → UpTo (Some 0) s → covers (node v f0 f1) s ≡ false
   none_spent a0 apart t i s u = by (covers (node v f0 f1) s) refl
     where

@@ -6,7 +6,7 @@ use Rattle.zdd_nodes.specs.Nodes.{at}
 use Rattle.least_families.specs.declared.halves.Halves.{Halves}
 
 -- the halves of the numbers f and g at the least event of both; the halves are earlier numbers of greater events
-pub record AreHalves (fs : List Family) (f g : ℕ) (h : Halves) : Type 0 where
+pub record AreLeastHalves (fs : List Family) (f g : ℕ) (h : Halves) : Type 0 where
   pub f_is : at fs f ≡ node h.event.n (at fs h.f0.n) (at fs h.f1.n)
   pub g_is : at fs g ≡ node h.event.n (at fs h.g0.n) (at fs h.g1.n)
   pub f0_in : h.f0.n < length fs + 2

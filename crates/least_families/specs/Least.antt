@@ -9,13 +9,13 @@ abbrev pub covers : Family → List ℕ → Bool
 covers f s = list_any (λ t. within t s) f
 
 -- no set of the family lies within another
-pub record AreApart (f : Family) : Type 0 where
+pub record AreIncomparable (f : Family) : Type 0 where
   pub least : (s t : List ℕ) → has f s ≡ true → has f t ≡ true → within s t ≡ true → within t s ≡ true
 
 -- the family has the least sets with P at which the test is true: no set of it lies within another, each has P, and of the
 -- sets with P the test is true at those that have a set of the family in them, and at no other
 pub record AreLeast (P : List ℕ → Type 0) (test : List ℕ → Bool) (f : Family) : Type 0 where
-  pub apart : AreApart f
+  pub apart : AreIncomparable f
   pub each : (s : List ℕ) → has f s ≡ true → P s
   pub at : (s : List ℕ) → P s → covers f s ≡ test s
 

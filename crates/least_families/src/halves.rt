@@ -1,8 +1,8 @@
 //! Two families at the least event of both.
 
 ghost use Rattle.std.specs.Prelude.{◌≡◌, ◌≤◌, ◌⊎◌};
-ghost use Rattle.zdd_nodes.specs.Nodes.{IsNumber};
-ghost use Rattle.least_families.specs.Halves.{AreHalves};
+ghost use Rattle.zdd_nodes.specs.Nodes.{IsFamilyNumber};
+ghost use Rattle.least_families.specs.Halves.{AreLeastHalves};
 
 use ar_base::EventId;
 use zdd_nodes::{NodeId, Store};
@@ -24,10 +24,10 @@ pub(crate) struct Halves {
 
 /// The halves of two families, of which one at least is a node, at their least event.
 pub(crate) fn halves_of(store: &Store, f: NodeId, g: NodeId) -> Halves
-    requires f_in { IsNumber store.now f.n }
-    requires g_in { IsNumber store.now g.n }
+    requires f_in { IsFamilyNumber store.now f.n }
+    requires g_in { IsFamilyNumber store.now g.n }
     requires some { (2 ≤ f.n) ⊎ (2 ≤ g.n) }
-    ensures { AreHalves store.now.families f.n g.n result }
+    ensures { AreLeastHalves store.now.families f.n g.n result }
 {
     let none = NodeId::new(0);
     match store.split(f) {

@@ -4,26 +4,13 @@ ghost use Rattle.std.specs.Prelude.{◌≡◌, ◌≤◌, ◌-◌, ◌&&◌, ◌
 ghost use Rattle.zdd_nodes.specs.Nodes.{family};
 ghost use Rattle.std.specs.Option.{option_map};
 ghost use Rattle.least_families.specs.Least.{covers};
-ghost use Rattle.least_families.specs.Held.{IsSound, IsUnionKnown};
-ghost use Rattle.least_families.specs.Kept.{Keeps, IsOperand, IsLeastOf};
+ghost use Rattle.least_families.specs.Held.{AreLeastHeld, IsUnionKnown};
+ghost use Rattle.least_families.specs.Kept.{KeepsHeld, IsOperand, IsLeastOf};
 
 use crate::halves::halves_of;
 use crate::memo::{Memo, Operation};
 use zdd_nodes::{NodeFault, NodeId};
 use zdd_ops::Ops;
-
-// The union where an operand is 0 or 1 or both are one.
-fn known_union(f: NodeId, g: NodeId) -> Option<NodeId>
-    ensures { MatchOption result ((2 ≤ f.n) ⊎ (2 ≤ g.n)) (λ n. IsUnionKnown f.n g.n n.n) }
-{
-    if f.n == 0 || f.n == g.n || g.n == 1 {
-        return Some(g);
-    }
-    if g.n == 0 || f.n == 1 {
-        return Some(f);
-    }
-    None
-}
 
 /// The least sets of two families, of each of which no set lies within another. Full comes where the store has its limit of
 /// nodes; no clause tells when, since who calls this has another way to the answer then. Older numbers keep their families.
@@ -35,8 +22,8 @@ pub fn union_least(
 ) -> Result<NodeId, NodeFault>
     requires first { IsOperand ops.old f.n }
     requires second { IsOperand ops.old g.n }
-    requires held { IsSound memo.old ops.old.families }
-    ensures kept { Keeps ops.old memo.new ops.new }
+    requires held { AreLeastHeld memo.old ops.old.families }
+    ensures kept { KeepsHeld ops.old memo.new ops.new }
     ensures least { IfOk result (λ n. IsLeastOf None
         (λ s. covers (family ops.old f.n) s || covers (family ops.old g.n) s) ops.new n.n) }
 {
@@ -53,6 +40,19 @@ pub fn union_least(
     let hi = ops.without(with, lo)?;
     let made = ops.node(halves.event, lo, hi)?;
     memo.remember(operation, made)
+}
+
+// The union where an operand is 0 or 1 or both are one.
+fn known_union(f: NodeId, g: NodeId) -> Option<NodeId>
+    ensures { MatchOption result ((2 ≤ f.n) ⊎ (2 ≤ g.n)) (λ n. IsUnionKnown f.n g.n n.n) }
+{
+    if f.n == 0 || f.n == g.n || g.n == 1 {
+        return Some(g);
+    }
+    if g.n == 0 || f.n == 1 {
+        return Some(f);
+    }
+    None
 }
 
 // Whether no member is left to take.
@@ -76,8 +76,8 @@ fn one_fewer(order: Option<u32>) -> Option<u32>
 // The sets of at most so many members, of a family of which no set lies within another.
 fn few(ops: &mut Ops, memo: &mut Memo, f: NodeId, most: u32) -> Result<NodeId, NodeFault>
     requires operand { IsOperand ops.old f.n }
-    requires held { IsSound memo.old ops.old.families }
-    ensures kept { Keeps ops.old memo.new ops.new }
+    requires held { AreLeastHeld memo.old ops.old.families }
+    ensures kept { KeepsHeld ops.old memo.new ops.new }
     ensures least { IfOk result
         (λ n. IsLeastOf (Some most) (covers (family ops.old f.n)) ops.new n.n) }
 {
@@ -105,8 +105,8 @@ pub fn least_up_to(
     order: Option<u32>,
 ) -> Result<NodeId, NodeFault>
     requires operand { IsOperand ops.old f.n }
-    requires held { IsSound memo.old ops.old.families }
-    ensures kept { Keeps ops.old memo.new ops.new }
+    requires held { AreLeastHeld memo.old ops.old.families }
+    ensures kept { KeepsHeld ops.old memo.new ops.new }
     ensures least { IfOk result (λ n. IsLeastOf order (covers (family ops.old f.n)) ops.new n.n) }
 {
     match order {
@@ -127,8 +127,8 @@ pub fn product_least(
 ) -> Result<NodeId, NodeFault>
     requires first { IsOperand ops.old f.n }
     requires second { IsOperand ops.old g.n }
-    requires held { IsSound memo.old ops.old.families }
-    ensures kept { Keeps ops.old memo.new ops.new }
+    requires held { AreLeastHeld memo.old ops.old.families }
+    ensures kept { KeepsHeld ops.old memo.new ops.new }
     ensures least { IfOk result (λ n. IsLeastOf order
         (λ s. covers (family ops.old f.n) s && covers (family ops.old g.n) s) ops.new n.n) }
 {

@@ -2,7 +2,7 @@
 
 ghost use Rattle.std.specs.Prelude.{◌≡◌, ◌≤◌, [], length, MatchResult};
 ghost use Rattle.std.specs.Map.{lookup};
-ghost use Rattle.least_families.specs.Held.{operation_eq, Remembers};
+ghost use Rattle.least_families.specs.Held.{is_same_least_operation, RemembersLeast};
 
 use std::alloc::Global;
 use std::collections::HashMap;
@@ -53,7 +53,7 @@ impl Memo {
 
     /// The result of an operation, where it is held. Takes no memory.
     pub(crate) fn recall(&self, operation: Operation) -> Option<NodeId>
-        ensures { result ≡ lookup (operation_eq operation) self.now }
+        ensures { result ≡ lookup (is_same_least_operation operation) self.now }
     {
         self.results.get(&operation).copied()
     }
@@ -66,7 +66,7 @@ impl Memo {
         operation: Operation,
         number: NodeId,
     ) -> Result<NodeId, NodeFault>
-        ensures entry { Remembers operation number self.old self.new }
+        ensures entry { RemembersLeast operation number self.old self.new }
         ensures bound { length self.new ≤ 4194304 }
         ensures number { MatchResult result (λ n. n ≡ number) (λ e. e ≡ NodeFault.Memory) }
     {

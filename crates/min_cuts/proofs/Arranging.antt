@@ -11,7 +11,7 @@ use Rattle.ar_base.proofs.Standing.{stands_get, stands_within, stands_map, stand
 use Rattle.zdd_families.specs.Families.{holds}
 use Rattle.zdd_families.proofs.Ascending.{IsAscending, ascends_from}
 use Rattle.zdd_families.proofs.Members.{holds_law}
-use Rattle.min_cuts.specs.Kept.{in_order, ArePlaces, IsKnown}
+use Rattle.min_cuts.specs.Kept.{events_in_order, AreEventPlaces, IsInTheOrder}
 use Rattle.ar_firing.proofs.OneListing.{ascending_same}
 
 module _ (set : List ℕ) where
@@ -108,7 +108,7 @@ module _ (set : List ℕ) where
       by rest true = ap (λ z. z ∷ map at (held (suc i) es)) first ∙ ap (λ z. e ∷ z) rest
       by rest false = rest
 
-module _ (order places set : List ℕ) (known : IsKnown order set) (are : ArePlaces order places) where
+module _ (order places set : List ℕ) (known : IsInTheOrder order set) (are : AreEventPlaces order places) where
   abbrev place_of : ℕ → ℕ
   place_of e = get_or places e 0
 
@@ -216,7 +216,7 @@ module _ (order places set : List ℕ) (known : IsKnown order set) (are : ArePla
         stands_within order p i.0 (subst (λ z. Stands order z i.0) i.2 (at_place i.0 i.1))
 
     -- the events at the spots are those of the set, as they stand in the order
-    pub arranged : map (λ p. get_or order p 0) spots ≡ in_order order set
+    pub arranged : map (λ p. get_or order p 0) spots ≡ events_in_order order set
     arranged = ap (map (λ p. get_or order p 0)) spots_held
         ∙ at_held set (λ p. get_or order p 0) 0 order (λ k e s. ahead k e s)
       where

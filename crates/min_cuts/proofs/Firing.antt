@@ -18,7 +18,7 @@ use Rattle.firable_families.specs.FirableInside.{LeadsToMode, IsFirableOf}
 use Rattle.firable_families.specs.FirableInside.LeadsToMode.{root, edge}
 use Rattle.firable_families.proofs.Listing.{stands_has}
 use Rattle.min_cuts.specs.Lines.{line_from, IsInFiringOrder, AreInFiringOrder}
-use Rattle.min_cuts.specs.Kept.{edge_events, in_order, IsKnown}
+use Rattle.min_cuts.specs.Kept.{edge_events, events_in_order, IsInTheOrder}
 use Rattle.min_cuts.proofs.Order.{on, label_of, same_tests, on_some, in_front}
 
 abbrev event_of : Row → ℕ
@@ -145,7 +145,7 @@ events_of_labels (r ∷ rs) = ap (λ z. r.label.event ∷ z) (events_of_labels r
 lines : (n : ℕ) (trees : List ModeTree) (path : ℕ → List Label) (set : List ℕ)
     → ((k : ℕ) (tree : ModeTree) → Stands trees k tree
     → map label_of (filter (λ r. holds r.label.event set) tree.edges) ≡ reverse (path (n + k)))
-    → in_order (edge_events trees) set ≡ map (λ (l : Label). l.event) (line_from n trees path)
+    → events_in_order (edge_events trees) set ≡ map (λ (l : Label). l.event) (line_from n trees path)
 lines n [] path set h = refl
 lines n (t ∷ ts) path set h =
     let here : reverse (path (n + zero)) ≡ reverse (path n) = ap (λ z. reverse (path z)) (omega arith) in
@@ -158,7 +158,7 @@ lines n (t ∷ ts) path set h =
 
 -- a firable set's events, as they stand among those of the edges, are in firing order
 pub in_firing_order : (trees : List ModeTree) → AreTrees trees → (set : List ℕ) → IsFirableOf trees set
-    → IsInFiringOrder trees set (in_order (edge_events trees) set)
+    → IsInFiringOrder trees set (events_in_order (edge_events trees) set)
 in_firing_order trees are set fires = record {
   is_firable = fires;
   is = lines 0 trees fires.path set (λ k tree s. tree_line trees are set fires k tree s
@@ -166,7 +166,7 @@ in_firing_order trees are set fires = record {
 }
 
 pub firable_known : (trees : List ModeTree) (set : List ℕ) → Ascends set → IsFirableOf trees set
-    → IsKnown (edge_events trees) set
+    → IsInTheOrder (edge_events trees) set
 firable_known trees set a fires = record {
   ascends = a;
   listed = λ e o.
@@ -185,6 +185,6 @@ along_map trees f (s ∷ sets) h = one_and (h zero s refl) (along_map trees f se
 
 pub all_in_firing_order : (trees : List ModeTree) → AreTrees trees → (sets : Family)
     → ((s : List ℕ) → has sets s ≡ true → IsFirableOf trees s)
-    → AreInFiringOrder trees sets (map (in_order (edge_events trees)) sets)
-all_in_firing_order trees are sets h = along_map trees (in_order (edge_events trees)) sets
+    → AreInFiringOrder trees sets (map (events_in_order (edge_events trees)) sets)
+all_in_firing_order trees are sets h = along_map trees (events_in_order (edge_events trees)) sets
     (λ k s i. in_firing_order trees are s (h s (stands_has sets k s i)))

@@ -2,7 +2,7 @@
 use Rattle.std.proofs.Common.{◌≡◌, ◌<◌, ℕ, ◌+◌, List, [], ◌∷◌, ◌++◌, map, length, take, get_or, Result, Ok, Err, is_ok, IsOk, if◌then◌else◌, true≢false, refl, sym, ap, ap₂, ◌∙◌, append_assoc, append-nil}
 use Rattle.std.proofs.lemmas.List.{map-append, take_more}
 use Rattle.ar_firing.specs.Forest.{ModeTree}
-use Rattle.mode_trees.specs.Views.{row_of, tree_of}
+use Rattle.mode_trees.specs.Views.{edge_row, tree_of}
 use Rattle.mode_trees.specs.declared.forests.Edge.{Edge}
 use Rattle.mode_trees.specs.declared.forests.ModeTree.{ModeTree as TreeOfCode}
 use Rattle.min_cuts.specs.Kept.{edge_events}
@@ -30,9 +30,9 @@ edge_events-push (u ∷ trees) t =
 
 -- the event of an edge of the code
 abbrev edge_event : Edge → ℕ
-edge_event e = (row_of (λ n. n) e).label.event
+edge_event e = (edge_row (λ n. n) e).label.event
 
-seen_edges : (edges : List Edge) → map (λ r. r.label.event) (map (row_of (λ n. n)) edges) ≡ map edge_event edges
+seen_edges : (edges : List Edge) → map (λ r. r.label.event) (map (edge_row (λ n. n)) edges) ≡ map edge_event edges
 seen_edges [] = refl
 seen_edges (e ∷ edges) = ap (λ z. edge_event e ∷ z) (seen_edges edges)
 

@@ -5,7 +5,7 @@ use Rattle.std.proofs.lemmas.Option.{get_or_from_slice_get}
 use Rattle.ar_base.specs.Lists.{Stands, AreDifferent}
 use Rattle.ar_base.specs.NumbersInside.{EventId}
 use Rattle.ar_base.proofs.Standing.{stands_within, stands_map, stands_get}
-use Rattle.min_cuts.specs.Kept.{numbers}
+use Rattle.min_cuts.specs.Kept.{numbers_of_set}
 
 set_here : (xs : List ℕ) (i v : ℕ) → i < length xs → Stands (set xs i v) i v
 set_here xs i v l = subst (λ z. Stands (set xs i v) i z) (get_or-set_same xs i v 0 l)
@@ -22,7 +22,7 @@ pub record ArePlaced (order : List ℕ) (i : ℕ) (places : List ℕ) : Type 0 w
   pub placed : (k e : ℕ) → k < i → Stands order k e → Stands places e k
 
 pub event_stands : (order : List EventId) (i : ℕ) (d : EventId) → i < length order
-    → Stands (numbers order) i (get_or order i d).n
+    → Stands (numbers_of_set order) i (get_or order i d).n
 event_stands order i d l = stands_map (λ (x : EventId). x.n) order i (get_or order i d) (stands_get order i d l)
 
 pub placed_more : (order : List ℕ) (i e : ℕ) (places : List ℕ) → Stands order i e → AreDifferent order

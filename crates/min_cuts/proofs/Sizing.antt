@@ -7,7 +7,7 @@ use Rattle.zdd_families.specs.FamiliesInside.{node}
 use Rattle.zdd_nodes.specs.Nodes.{Stored, family, IsNode}
 use Rattle.zdd_nodes.proofs.Lists.{slice_get-push_cases}
 use Rattle.min_cuts.specs.Sizes.{largest, count}
-use Rattle.min_cuts.specs.Kept.{AreMeasured, AreSmall}
+use Rattle.min_cuts.specs.Kept.{AreMeasured, AreWithinPlaces}
 
 pub length-node : (v : ℕ) (lo hi : Family) → length (node v lo hi) ≡ length hi + length lo
 length-node v lo hi = length-append (map (λ s. v ∷ s) hi) lo ∙ ap (λ z. z + length lo) (length-map hi (λ s. v ∷ s))
@@ -42,12 +42,12 @@ measured_push measure s table x m e = record {
 pub measured_none : (measure : Family → ℕ) (s : Stored) → AreMeasured measure s []
 measured_none measure s = record { each = λ k x h. cc }
 
-pub small_push : (table : List ℕ) (x : ℕ) → AreSmall table → x ≤ length table → AreSmall (table ++ x ∷ [])
+pub small_push : (table : List ℕ) (x : ℕ) → AreWithinPlaces table → x ≤ length table → AreWithinPlaces (table ++ x ∷ [])
 small_push table x m e = record {
   each = λ k y h. ⊎_elim (λ i. m.each k y i) (λ p. omega (arith, p.0, p.1, e)) (slice_get-push_cases table x k y h);
 }
 
-pub small_none : AreSmall []
+pub small_none : AreWithinPlaces []
 small_none = record { each = λ k x h. cc }
 
 -- the size of a node's family from those of its halves in the table
@@ -63,7 +63,7 @@ largest_from s table n v lo hi i long m =
     omega (arith, h, l, e)
 
 pub small_from : (s : Stored) (table : List ℕ) (n v lo hi : ℕ) → IsNode s.families n v lo hi → n ≤ length table
-    → AreSmall table → max (get_or table hi 0 + 1) (get_or table lo 0) ≤ n
+    → AreWithinPlaces table → max (get_or table hi 0 + 1) (get_or table lo 0) ≤ n
 small_from s table n v lo hi i long m =
     let h : get_or table hi 0 ≤ hi = m.each hi (get_or table hi 0)
     (stands_get table hi 0 (omega (arith, long, i.hi_before))) in

@@ -3,43 +3,43 @@ use Rattle.std.proofs.Common.{◌≡◌, ◌≢◌, ⊎_elim, ◌<◌, ℕ, suc,
 use Rattle.std.proofs.lemmas.List.{map-append}
 use Rattle.ar_base.proofs.Standing.{stands_left, stands_next}
 use Rattle.zdd_families.specs.Families.{Family}
-use Rattle.zdd_families.specs.Behind.{behind}
+use Rattle.zdd_families.specs.Behind.{behind_events}
 use Rattle.zdd_families.proofs.Behind.{behind_node}
 use Rattle.zdd_nodes.specs.Nodes.{Stored, family, IsNode}
 use Rattle.zdd_nodes.proofs.Lists.{slice_get-push_cases}
 use Rattle.min_cuts.specs.Sizes.{largest}
-use Rattle.min_cuts.specs.Kept.{taken, waiting, to_give, HasRoom, HaveRoom}
+use Rattle.min_cuts.specs.Kept.{taken_events, waiting, to_give, HasRoom, HaveRoom}
 use Rattle.min_cuts.specs.declared.steps.Step.{Step}
 use Rattle.min_cuts.proofs.Sizing.{largest-node}
 
-with_event : (p : List ℕ) (v : ℕ) (hi : Family) → behind p (map (λ t. v ∷ t) hi) ≡ behind (p ++ v ∷ []) hi
+with_event : (p : List ℕ) (v : ℕ) (hi : Family) → behind_events p (map (λ t. v ∷ t) hi) ≡ behind_events (p ++ v ∷ []) hi
 with_event p v [] = refl
 with_event p v (s ∷ hi) = ap₂ (λ (a : List ℕ) (b : Family). a ∷ b) (sym (append_assoc p (v ∷ []) s)) (with_event p v hi)
 
-taken_push : (steps : List Step) (x : Step) → taken (steps ++ x ∷ []) ≡ taken steps ++ x.event.n ∷ []
+taken_push : (steps : List Step) (x : Step) → taken_events (steps ++ x ∷ []) ≡ taken_events steps ++ x.event.n ∷ []
 taken_push steps x = map-append (λ (x : Step). x.event.n) steps (x ∷ [])
 
 -- what a last step left comes first
 waiting_push : (s : Stored) (p : List ℕ) (steps : List Step) (x : Step)
-    → waiting s p (steps ++ x ∷ []) ≡ behind (p ++ taken steps) (family s x.rest.n) ++ waiting s p steps
-waiting_push s p [] x = ap (λ z. behind z (family s x.rest.n)) (sym (append-nil p))
-    ∙ sym (append-nil (behind (p ++ []) (family s x.rest.n)))
+    → waiting s p (steps ++ x ∷ []) ≡ behind_events (p ++ taken_events steps) (family s x.rest.n) ++ waiting s p steps
+waiting_push s p [] x = ap (λ z. behind_events z (family s x.rest.n)) (sym (append-nil p))
+    ∙ sym (append-nil (behind_events (p ++ []) (family s x.rest.n)))
 waiting_push s p (y ∷ steps) x =
-    ap (λ z. z ++ behind p (family s y.rest.n)) (waiting_push s (p ++ y.event.n ∷ []) steps x
-    ∙ ap (λ z. behind z (family s x.rest.n) ++ waiting s (p ++ y.event.n ∷ []) steps)
-    (append_assoc p (y.event.n ∷ []) (taken steps)))
-    ∙ append_assoc (behind (p ++ (y.event.n ∷ taken steps)) (family s x.rest.n))
-    (waiting s (p ++ y.event.n ∷ []) steps) (behind p (family s y.rest.n))
+    ap (λ z. z ++ behind_events p (family s y.rest.n)) (waiting_push s (p ++ y.event.n ∷ []) steps x
+    ∙ ap (λ z. behind_events z (family s x.rest.n) ++ waiting s (p ++ y.event.n ∷ []) steps)
+    (append_assoc p (y.event.n ∷ []) (taken_events steps)))
+    ∙ append_assoc (behind_events (p ++ (y.event.n ∷ taken_events steps)) (family s x.rest.n))
+    (waiting s (p ++ y.event.n ∷ []) steps) (behind_events p (family s y.rest.n))
 
 -- a step changes nothing of what is to be given
 pub step_gives : (s : Stored) (steps : List Step) (x : Step) (n hi : ℕ) → IsNode s.families n x.event.n x.rest.n hi
     → to_give s (steps ++ x ∷ []) hi ≡ to_give s steps n
 step_gives s steps x n hi i =
-    ap₂ (λ (a : List ℕ) (b : Family). behind a (family s hi) ++ b) (taken_push steps x) (waiting_push s [] steps x)
-    ∙ sym (append_assoc (behind (taken steps ++ x.event.n ∷ []) (family s hi))
-    (behind (taken steps) (family s x.rest.n)) (waiting s [] steps))
-    ∙ ap (λ z. z ++ waiting s [] steps) (sym (behind_node (taken steps) x.event.n (family s x.rest.n) (family s hi))
-    ∙ ap (behind (taken steps)) (sym i.is))
+    ap₂ (λ (a : List ℕ) (b : Family). behind_events a (family s hi) ++ b) (taken_push steps x) (waiting_push s [] steps x)
+    ∙ sym (append_assoc (behind_events (taken_events steps ++ x.event.n ∷ []) (family s hi))
+    (behind_events (taken_events steps) (family s x.rest.n)) (waiting s [] steps))
+    ∙ ap (λ z. z ++ waiting s [] steps) (sym (behind_node (taken_events steps) x.event.n (family s x.rest.n) (family s hi))
+    ∙ ap (behind_events (taken_events steps)) (sym i.is))
 
 -- the last step goes where what it left is to be given
 pub back_gives : (s : Stored) (steps : List Step) (x : Step) → waiting s [] (steps ++ x ∷ []) ≡ to_give s steps x.rest.n
@@ -48,11 +48,11 @@ back_gives s steps x = waiting_push s [] steps x
 -- where it left nothing, it goes
 pub back_none : (s : Stored) (steps : List Step) (x : Step) → x.rest.n ≡ 0
     → waiting s [] (steps ++ x ∷ []) ≡ waiting s [] steps
-back_none s steps x e = waiting_push s [] steps x ∙ ap (λ n. behind (taken steps) (family s n) ++ waiting s [] steps) e
+back_none s steps x e = waiting_push s [] steps x ∙ ap (λ n. behind_events (taken_events steps) (family s n) ++ waiting s [] steps) e
 
 -- at the number of the family of the empty set the events that were taken are the next set
-pub unit_gives : (s : Stored) (steps : List Step) → to_give s steps 1 ≡ taken steps ∷ waiting s [] steps
-unit_gives s steps = ap (λ z. z ∷ waiting s [] steps) (append-nil (taken steps))
+pub unit_gives : (s : Stored) (steps : List Step) → to_give s steps 1 ≡ taken_events steps ∷ waiting s [] steps
+unit_gives s steps = ap (λ z. z ∷ waiting s [] steps) (append-nil (taken_events steps))
 
 -- ---- room
 -- both halves of a node have room where it has

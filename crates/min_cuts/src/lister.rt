@@ -5,7 +5,7 @@ ghost use Rattle.std.specs.Borrow.{sem};
 ghost use Rattle.ar_firing.specs.Trees.{AreTrees};
 ghost use Rattle.mode_trees.specs.Views.{trees_of};
 ghost use Rattle.zdd_families.specs.Families.{has};
-ghost use Rattle.zdd_nodes.specs.Nodes.{family as family_of, IsNumber};
+ghost use Rattle.zdd_nodes.specs.Nodes.{family as family_of, IsFamilyNumber};
 ghost use Rattle.firable_families.specs.FirableInside.{IsFirableOf};
 ghost use Rattle.min_cuts.specs.Lines.{AreInFiringOrder};
 
@@ -43,20 +43,20 @@ impl Model for Lister {
 
     ghost Value = { List (List ℕ) };
 
-    ghost use Rattle.min_cuts.specs.Listing.{left_in, IsListing};
+    ghost use Rattle.min_cuts.specs.Listing.{left_in, IsSoundLister};
 
     ghost view = { left_in };
 
-    ghost invariant = { IsListing };
+    ghost invariant = { IsSoundLister };
 }
 
 impl Lister {
-    ghost use Rattle.min_cuts.specs.Gives.{IsFirst, GoesOn};
+    ghost use Rattle.min_cuts.specs.Gives.{IsFirstSet, GivesThenGoesOn};
 
     /// A lister of all sets of the family, which are firable in the trees of the forest. Takes all memory of the
     /// listing, and none where the family has no set.
     pub fn open(alloc: Global, family: Family, forest: &Forest) -> Result<Lister, Memory>
-        requires root { IsNumber family.store family.root.n }
+        requires root { IsFamilyNumber family.store family.root.n }
         requires trees { AreTrees (trees_of (λ n. n) forest.now) }
         requires firable { (s : List ℕ) → has (family_of family.store family.root.n) s ≡ true
             → IsFirableOf (trees_of (λ n. n) forest.now) s }
@@ -104,8 +104,8 @@ impl Lister {
 
     /// The events of the next set, in firing order; None exactly where no set is left. Takes no memory.
     pub fn next(&mut self) -> Option<&[EventId]>
-        ensures* goes_on { sem 𝓛 (GoesOn self.entry result) }
-        ensures first { IsFirst self.old result }
+        ensures* goes_on { sem 𝓛 (GivesThenGoesOn self.entry result) }
+        ensures first { IsFirstSet self.old result }
     {
         if self.next.n == 0 {
             return None;

@@ -4,8 +4,8 @@ ghost use Rattle.std.specs.Prelude.{◌≡◌, ◌<◌, ◌≤◌, ◌++◌, ℕ
 ghost use Rattle.std.specs.Ordering.{nat_cmp};
 ghost use Rattle.std.specs.List.Sorted.{IsPermutation, IsSorted};
 ghost use Rattle.ar_base.specs.Lists.{Stands, AreDifferent};
-ghost use Rattle.mode_trees.specs.Views.{trees_of, row_of};
-ghost use Rattle.min_cuts.specs.Kept.{numbers, taken, edge_events, ArePlaces};
+ghost use Rattle.mode_trees.specs.Views.{trees_of, edge_row};
+ghost use Rattle.min_cuts.specs.Kept.{numbers_of_set, taken_events, edge_events, AreEventPlaces};
 
 use crate::steps::Step;
 use ar_base::{EventId, Memory};
@@ -15,7 +15,7 @@ use std::alloc::Global;
 /// The events of all edges, tree by tree.
 pub(crate) fn order_of(alloc: Global, forest: &Forest) -> Result<Vec<EventId>, Memory>
     ensures { IfOk result (λ order.
-        numbers order.items ≡ edge_events (trees_of (λ n. n) forest.now)) }
+        numbers_of_set order.items ≡ edge_events (trees_of (λ n. n) forest.now)) }
 {
     let mut order = Vec::new(alloc);
     for tree in &forest.trees {
@@ -26,8 +26,8 @@ pub(crate) fn order_of(alloc: Global, forest: &Forest) -> Result<Vec<EventId>, M
 
 // Puts the events of the edges behind the others.
 fn add_events(order: &mut Vec<EventId>, edges: &[Edge]) -> Result<(), Memory>
-    ensures { OnOk result (numbers order.new.items
-        ≡ numbers order.old.items ++ map (λ e. (row_of (λ n. n) e).label.event) edges.now) }
+    ensures { OnOk result (numbers_of_set order.new.items
+        ≡ numbers_of_set order.old.items ++ map (λ e. (edge_row (λ n. n) e).label.event) edges.now) }
 {
     for edge in edges {
         order.push(edge.event)?;
@@ -37,8 +37,8 @@ fn add_events(order: &mut Vec<EventId>, edges: &[Edge]) -> Result<(), Memory>
 
 /// For each event its place in the order; for a number that is no event's, some number.
 pub(crate) fn places_of(alloc: Global, order: &[EventId]) -> Result<Vec<usize>, Memory>
-    requires { AreDifferent (numbers order.now) }
-    ensures { IfOk result (λ places. ArePlaces (numbers order.now) places.items) }
+    requires { AreDifferent (numbers_of_set order.now) }
+    ensures { IfOk result (λ places. AreEventPlaces (numbers_of_set order.now) places.items) }
 {
     let mut places = vec![in alloc; 0_usize; bound(order)]?;
     for (place, event) in order.iter().enumerate() {
@@ -49,7 +49,7 @@ pub(crate) fn places_of(alloc: Global, order: &[EventId]) -> Result<Vec<usize>, 
 
 // A number that is above those of the events.
 fn bound(order: &[EventId]) -> usize
-    ensures { (k e : ℕ) → Stands (numbers order.now) k e → e < result }
+    ensures { (k e : ℕ) → Stands (numbers_of_set order.now) k e → e < result }
 {
     let mut bound: usize = 0;
     for event in order {
@@ -60,9 +60,9 @@ fn bound(order: &[EventId]) -> usize
 
 /// The places of the steps' events, ascending. There is room for them, so that it takes no memory.
 pub(crate) fn find_spots(steps: &[Step], places: &[usize], spots: &mut Vec<usize>)
-    requires placed { (k e : ℕ) → Stands (taken steps.now) k e → e < length places.now }
+    requires placed { (k e : ℕ) → Stands (taken_events steps.now) k e → e < length places.now }
     requires room { length steps.now ≤ vec_capacity spots.old }
-    ensures spots { IsPermutation (map (λ e. slice_index places.now e) (taken steps.now))
+    ensures spots { IsPermutation (map (λ e. slice_index places.now e) (taken_events steps.now))
         spots.new.items }
     ensures sorted { IsSorted nat_cmp spots.new.items }
     ensures capacity { vec_capacity spots.old ≤ vec_capacity spots.new }
@@ -78,8 +78,8 @@ pub(crate) fn find_spots(steps: &[Step], places: &[usize], spots: &mut Vec<usize
 pub(crate) fn name_spots(order: &[EventId], spots: &[usize], given: &mut Vec<EventId>)
     requires inside { (k p : ℕ) → Stands spots.now k p → p < length order.now }
     requires room { length spots.now ≤ vec_capacity given.old }
-    ensures given { numbers given.new.items
-        ≡ map (λ p. slice_index (numbers order.now) p) spots.now }
+    ensures given { numbers_of_set given.new.items
+        ≡ map (λ p. slice_index (numbers_of_set order.now) p) spots.now }
     ensures capacity { vec_capacity given.old ≤ vec_capacity given.new }
 {
     given.clear();

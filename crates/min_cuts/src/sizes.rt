@@ -1,9 +1,9 @@
 //! How many sets a family has, and how large they are, without listing them.
 
 ghost use Rattle.std.specs.Prelude.{◌≡◌, ◌≤◌, IfOk, length};
-ghost use Rattle.zdd_nodes.specs.Nodes.{family as family_of, IsNumber, IsSoundStore};
+ghost use Rattle.zdd_nodes.specs.Nodes.{family as family_of, IsFamilyNumber, IsSoundStore};
 ghost use Rattle.min_cuts.specs.Sizes.{largest as largest_of, count};
-ghost use Rattle.min_cuts.specs.Kept.{AreMeasured, AreSmall};
+ghost use Rattle.min_cuts.specs.Kept.{AreMeasured, AreWithinPlaces};
 
 use ar_base::Memory;
 use gate_diagrams::Family;
@@ -21,7 +21,7 @@ pub struct Counted {
 
 /// The counts of a family, by two passes over the nodes of its store, each child before its parents.
 pub fn counts(alloc: Global, family: &Family) -> Result<Counted, Memory>
-    requires root { IsNumber family.now.store family.now.root.n }
+    requires root { IsFamilyNumber family.now.store family.now.root.n }
     ensures sets { IfOk result (λ c.
         c.sets ≡ count (family_of family.now.store family.now.root.n)) }
     ensures largest { IfOk result (λ c.
@@ -39,7 +39,7 @@ pub fn counts(alloc: Global, family: &Family) -> Result<Counted, Memory>
 
 // How many sets the family of a number has, where the table has those of the earlier numbers.
 fn count_at(store: &Store, number: NodeId, table: &[u128]) -> u128
-    requires in_store { IsNumber store.now number.n }
+    requires in_store { IsFamilyNumber store.now number.n }
     requires long { number.n ≤ length table.now }
     requires table { AreMeasured count store.now table.now }
     ensures { result ≡ count (family_of store.now number.n) }
@@ -53,7 +53,7 @@ fn count_at(store: &Store, number: NodeId, table: &[u128]) -> u128
 
 /// How many events the largest set of the family of a number has, 0 where it has no set.
 pub(crate) fn largest(alloc: Global, store: &Store, root: NodeId) -> Result<u32, Memory>
-    requires { IsNumber store.now root.n }
+    requires { IsFamilyNumber store.now root.n }
     ensures largest { IfOk result (λ size. size ≡ largest_of (family_of store.now root.n)) }
     ensures sound { IfOk result (λ _. IsSoundStore store.now) }
 {
@@ -66,10 +66,10 @@ pub(crate) fn largest(alloc: Global, store: &Store, root: NodeId) -> Result<u32,
 
 // The same, where the table has those of the earlier numbers.
 fn largest_at(store: &Store, number: NodeId, table: &[u32]) -> u32
-    requires in_store { IsNumber store.now number.n }
+    requires in_store { IsFamilyNumber store.now number.n }
     requires long { number.n ≤ length table.now }
     requires table { AreMeasured largest_of store.now table.now }
-    requires small { AreSmall table.now }
+    requires small { AreWithinPlaces table.now }
     ensures is { result ≡ largest_of (family_of store.now number.n) }
     ensures small { result ≤ number.n }
     ensures sound { IsSoundStore store.now }

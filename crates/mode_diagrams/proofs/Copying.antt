@@ -6,7 +6,7 @@ use Rattle.ar_base.proofs.Standing.{stands_get}
 use Rattle.zdd_families.specs.Families.{Family}
 use Rattle.zdd_families.specs.Sections.{IsCounted}
 use Rattle.zdd_families.proofs.Sections.{IsCounted-lower, IsCounted-upper}
-use Rattle.zdd_nodes.specs.Nodes.{NodeId, Stored, family, IsNumber, IsNode, Grows, Draws}
+use Rattle.zdd_nodes.specs.Nodes.{NodeId, Stored, family, IsFamilyNumber, IsNode, Grows, Draws}
 use Rattle.zdd_nodes.specs.declared.NodeFault.{NodeFault}
 use Rattle.zdd_nodes.proofs.Growing.{kept, still, Draws-weaker, counted_made}
 use Rattle.zdd_nodes.proofs.Halved.{Halved}
@@ -55,14 +55,14 @@ set_cases (c ∷ cs) (suc k) n zero m st = inl st
 set_cases (c ∷ cs) (suc k) n (suc j) m st =
     ⊎_elim (λ p. inl p) (λ q. inr (ap suc q.0, q.1)) (set_cases cs k n j m st)
 
-pub copied_set : (source s : Stored) (cs : List NodeId) (k : ℕ) (n : NodeId) → AreCopied source s cs → IsNumber s n.n
+pub copied_set : (source s : Stored) (cs : List NodeId) (k : ℕ) (n : NodeId) → AreCopied source s cs → IsFamilyNumber s n.n
     → family s n.n ≡ family source k → AreCopied source s (set cs k n)
 copied_set source s cs k n a h e = record {
   long = length-set cs k n ∙ a.long;
   each = λ j m st. ⊎_elim
       (λ p. a.each j m p)
       (λ q. inr (
-        subst (λ (x : NodeId). IsNumber s x.n) (sym q.1) h,
+        subst (λ (x : NodeId). IsFamilyNumber s x.n) (sym q.1) h,
         ap (λ (x : NodeId). family s x.n) q.1 ∙ e ∙ ap (family source) (sym q.0),
       ))
       (set_cases cs k n j m st);
@@ -80,9 +80,9 @@ small_same s t (suc zero) h = refl
 small_same s t (suc (suc n)) h = absurd (omega (arith, h))
 
 -- the number of a copy
-pub known_same : (source s : Stored) (cs : List NodeId) (k : ℕ) (d : NodeId) → IsNumber source k → AreCopied source s cs
+pub known_same : (source s : Stored) (cs : List NodeId) (k : ℕ) (d : NodeId) → IsFamilyNumber source k → AreCopied source s cs
     → ((get_or cs k d).n ≡ 0 → ⊥)
-    → IsNumber s (get_or cs k d).n × (family s (get_or cs k d).n ≡ family source k)
+    → IsFamilyNumber s (get_or cs k d).n × (family s (get_or cs k d).n ≡ family source k)
 known_same source s cs k d h a some =
     ⊎_elim (λ z. absurd (some z)) (λ y. y)
     (a.each k (get_or cs k d) (stands_get cs k d (omega (arith, h, a.long))))

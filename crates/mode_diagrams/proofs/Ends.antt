@@ -11,7 +11,7 @@ use Rattle.firable_families.specs.FirableInside.{LeadsToMode, root, edge}
 use Rattle.diagram_steps.specs.declared.trees.NumberedEdge.{NumberedEdge}
 use Rattle.diagram_steps.specs.declared.trees.NumberedTree.{NumberedTree}
 use Rattle.diagram_steps.specs.Trees.{edges_of}
-use Rattle.mode_diagrams.specs.Trees.{IsOnPath, last, earlier, IsNumbered}
+use Rattle.mode_diagrams.specs.Trees.{IsOnPath, last, earlier, IsNumberedTree}
 use Rattle.mode_diagrams.specs.Costs.{HasDifferentEvents}
 use Rattle.mode_diagrams.specs.Numbers.{modes_in, IsNumberOf}
 
@@ -137,7 +137,7 @@ module _ (tree : ModeTree) (t : IsTree tree) (n : NumberedTree) (is : IsNumberOf
       let low = stands_within (modes_in tree) m p.end p.stands in
       omega (arith, low, is.long, length-map tree.edges (λ (r : Row). r.to))
 
-  pub is_numbered : IsNumbered n
+  pub is_numbered : IsNumberedTree n
   is_numbered = record {
     each = λ m x st.
         let row = stands_some tree.edges m (omega (arith, is.long, stands_within (edges_of n) m x st)) in

@@ -9,22 +9,22 @@ use Rattle.ar_firing.specs.Trees.{IsTree, AreTrees}
 use Rattle.firable_families.specs.FirableInside.{LeadsToMode, root, edge, IsFirableOf}
 use Rattle.mode_nodes.specs.Diagrams.{mode_of}
 use Rattle.diagram_steps.specs.declared.trees.NumberedTree.{NumberedTree}
-use Rattle.diagram_steps.specs.Trees.{edges_of, HasEvent}
+use Rattle.diagram_steps.specs.Trees.{edges_of, TreeHasEvent}
 use Rattle.mode_diagrams.specs.Trees.{IsSetFrom}
-use Rattle.mode_diagrams.specs.Numbers.{AreNumbersOf, none, passed, one_and, IsNumberOf, IsByModes}
+use Rattle.mode_diagrams.specs.Numbers.{AreNumberedTrees, none, passed, one_and, IsNumberOf, IsByModes}
 use Rattle.mode_diagrams.proofs.Ends.{IsPathTo, number_of, path_of, number_within, is_numbered, has_different}
 
 abbrev AreTreesEach : List ModeTree → Type 0
 AreTreesEach trees = (k : ℕ) (tree : ModeTree) → Stands trees k tree → IsTree tree
 
 -- ---- the places of the numbered trees among all
-place_of : {trees : List ModeTree} {ns : List NumberedTree} → AreNumbersOf trees ns → ℕ → ℕ
+place_of : {trees : List ModeTree} {ns : List NumberedTree} → AreNumberedTrees trees ns → ℕ → ℕ
 place_of none k = k
 place_of (passed e are) k = suc (place_of are k)
 place_of (one_and is are) zero = zero
 place_of (one_and is are) (suc k) = suc (place_of are k)
 
-place_once : {trees : List ModeTree} {ns : List NumberedTree} (are : AreNumbersOf trees ns) (j k : ℕ)
+place_once : {trees : List ModeTree} {ns : List NumberedTree} (are : AreNumberedTrees trees ns) (j k : ℕ)
     → place_of are j ≡ place_of are k → j ≡ k
 unfolding place_of
 place_once none j k e = e
@@ -34,7 +34,7 @@ place_once (one_and is are) zero (suc k) e = let wrong : ⊥ = cc in absurd wron
 place_once (one_and is are) (suc j) zero e = let wrong : ⊥ = cc in absurd wrong
 place_once (one_and is are) (suc j) (suc k) e = ap suc (place_once are j k (omega (arith, e)))
 
-stands_at : {trees : List ModeTree} {ns : List NumberedTree} (are : AreNumbersOf trees ns) (k : ℕ) (n : NumberedTree)
+stands_at : {trees : List ModeTree} {ns : List NumberedTree} (are : AreNumberedTrees trees ns) (k : ℕ) (n : NumberedTree)
     → Stands ns k n → (tree : ModeTree) × Stands trees (place_of are k) tree × IsNumberOf tree n
 unfolding place_of
 stands_at none k n st = absurd (stands_none k n st)
@@ -72,7 +72,7 @@ no_label tree (x ∷ xs) end e (edge {m = m} w one) l o =
     one_none (record { from = m; label = x; to = end })
     (subst (λ z. IsOneOf z (record { from = m; label = x; to = end })) e one)
 
-collect : (trees : List ModeTree) (ns : List NumberedTree) → AreTreesEach trees → AreNumbersOf trees ns
+collect : (trees : List ModeTree) (ns : List NumberedTree) → AreTreesEach trees → AreNumberedTrees trees ns
     → (path : ℕ → List Label)
     → ((k : ℕ) (tree : ModeTree) → Stands trees k tree → (m : Value) × LeadsToMode tree (path k) m)
     → Modes trees ns path
@@ -154,7 +154,7 @@ first_then : List Label → (ℕ → List Label) → ℕ → List Label
 first_then a f zero = a
 first_then a f (suc k) = f k
 
-paths : (trees : List ModeTree) (ns : List NumberedTree) → AreTreesEach trees → AreNumbersOf trees ns → (mode : ℕ → ℕ)
+paths : (trees : List ModeTree) (ns : List NumberedTree) → AreTreesEach trees → AreNumberedTrees trees ns → (mode : ℕ → ℕ)
     → ((k : ℕ) (n : NumberedTree) → Stands ns k n → mode k ≤ length (edges_of n)) → Paths trees ns mode
 unfolding first_then
 paths _ _ each none mode within = record {
@@ -217,7 +217,7 @@ paths _ _ each (one_and {tree = tree} {n = n} {trees = trees} {ns = ns} is rest)
     by ls p more (suc j) other st l o = let x = more.back j other st l o in
         record { place = suc x.place; n = x.n; stands = x.stands; to = x.to }
 
-module _ (trees : List ModeTree) (ns : List NumberedTree) (t : AreTrees trees) (are : AreNumbersOf trees ns) where
+module _ (trees : List ModeTree) (ns : List NumberedTree) (t : AreTrees trees) (are : AreNumberedTrees trees ns) where
   modes_of : (set : List ℕ) → IsFirableOf trees set → (modes : List ℕ) × IsSetFrom ns 0 modes set
   modes_of set f =
       let w = collect trees ns t.each are f.path f.walks in (
@@ -253,7 +253,7 @@ module _ (trees : List ModeTree) (ns : List NumberedTree) (t : AreTrees trees) (
             (b.place, b.tree, y.0, b.stands, y.1, y.2);
       }
 
-  row_of : (k : ℕ) (n : NumberedTree) (e : ℕ) → Stands ns k n → HasEvent n e
+  row_of : (k : ℕ) (n : NumberedTree) (e : ℕ) → Stands ns k n → TreeHasEvent n e
       → (tree : ModeTree) × (r : Row) × Stands trees (place_of are k) tree × IsOneOf tree.edges r × (r.label.event ≡ e)
   row_of k n e st h =
       let b = stands_at are k n st in

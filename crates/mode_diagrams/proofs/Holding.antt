@@ -14,7 +14,7 @@ use Rattle.mode_nodes.specs.Bounds.{Bounded}
 use Rattle.diagram_steps.specs.declared.trees.NumberedTree.{NumberedTree}
 use Rattle.mode_diagrams.specs.declared.held.State.{State}
 use Rattle.mode_diagrams.specs.Sets.{HasSets}
-use Rattle.mode_diagrams.specs.Kept.{state_eq, Remembers, IsTrueIn, IsFamilyOf, AreHeld}
+use Rattle.mode_diagrams.specs.Kept.{state_eq, Remembers, IsTrueIn, IsStateFamily, AreHeld}
 
 -- ---- the derived `==` of states
 abbrev pub derived_eq : State → State → Bool
@@ -79,13 +79,13 @@ state_same k q e =
     (id_from k.diagram q.diagram (eqb-true k.diagram.n q.diagram.n r.1)))
 
 pub held_more : (trees : List NumberedTree) (s : Bounded) (made : Stored) (k : State) (n : NodeId)
-    (old new : List (State × NodeId)) → AreHeld trees s made old → IsFamilyOf trees s made k n.n
+    (old new : List (State × NodeId)) → AreHeld trees s made old → IsStateFamily trees s made k n.n
     → Remembers k n old new → AreHeld trees s made new
 held_more trees s made k n old new a f r = record {
   each = λ q m h. ⊎_elim
       (λ l. a.each q m l)
-      (λ x. subst (λ y. IsFamilyOf trees s made y m.n) (state_same k q x.0)
-      (subst (λ (y : NodeId). IsFamilyOf trees s made k y.n) (sym x.1) f))
+      (λ x. subst (λ y. IsStateFamily trees s made y m.n) (state_same k q x.0)
+      (subst (λ (y : NodeId). IsStateFamily trees s made k y.n) (sym x.1) f))
       (r.each q m h);
 }
 

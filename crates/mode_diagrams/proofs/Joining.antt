@@ -5,12 +5,12 @@ use Rattle.ar_base.specs.Lists.{Stands}
 use Rattle.ar_base.proofs.Standing.{stands_one, stands_none, stands_split, stands_within}
 use Rattle.eq_core.specs.Gates.{Operand, Gate}
 use Rattle.eq_core.specs.Values.{operand_at, joint_at, values_at}
-use Rattle.mode_nodes.specs.Diagrams.{DiagramId, Stored, value, IsNumber}
+use Rattle.mode_nodes.specs.Diagrams.{DiagramId, StoredDiagrams, value, IsDiagramNumber}
 use Rattle.mode_nodes.specs.Bounds.{Bounded, GrowsWithin}
 use Rattle.mode_nodes.proofs.Allowed.{GrowsWithin-then, allowed_before}
 use Rattle.diagram_steps.specs.declared.trees.NumberedTree.{NumberedTree}
-use Rattle.diagram_steps.specs.Joints.{joint_value, AreTabled, IsJoint}
-use Rattle.mode_diagrams.specs.Agreement.{Agrees, AgreesJoint, IsReady, AreReady}
+use Rattle.diagram_steps.specs.Joints.{joint_value, AreTabled, IsDiagramJoint}
+use Rattle.mode_diagrams.specs.Agreement.{HasOperandValues, AgreesJoint, IsOperandReady, AreReady}
 use Rattle.mode_diagrams.specs.Lacking.{Lacks, LacksOne}
 use Rattle.mode_diagrams.proofs.Laws.{agrees_kept, ready_kept, tabled_kept}
 
@@ -20,13 +20,13 @@ pub record AreDrawn (trees : List NumberedTree) (table : List DiagramId) (old : 
   pub grows : GrowsWithin old s
   pub numbers : AreTabled ns s.store
   pub agrees : (gates : List Gate) (k : ℕ) (o : Operand) (n : DiagramId) → Stands os k o → Stands ns k n
-      → IsReady trees gates table old o → Agrees trees gates o s n.n
+      → IsOperandReady trees gates table old o → HasOperandValues trees gates o s n.n
   pub known : (k : ℕ) (o : Operand) → k < length ns → Stands os k o → Lacks trees o → ⊥
 
 pub drawn_more : (trees : List NumberedTree) (table : List DiagramId) (old : Bounded) (os : List Operand)
     (ns : List DiagramId) (s t : Bounded) (o : Operand) (n : DiagramId) → Stands os (length ns) o
-    → AreDrawn trees table old os ns s → GrowsWithin s t → IsNumber t.store n.n
-    → ((gates : List Gate) → IsReady trees gates table s o → Agrees trees gates o t n.n) → (Lacks trees o → ⊥)
+    → AreDrawn trees table old os ns s → GrowsWithin s t → IsDiagramNumber t.store n.n
+    → ((gates : List Gate) → IsOperandReady trees gates table s o → HasOperandValues trees gates o t n.n) → (Lacks trees o → ⊥)
     → AreDrawn trees table old os (ns ++ n ∷ []) t
 drawn_more trees table old os ns s t o n so d g number agrees known = record {
   grows = GrowsWithin-then old s t d.grows g;
@@ -43,20 +43,20 @@ drawn_more trees table old os ns s t o n so d g number agrees known = record {
   known = λ k p h sp l. none k p h sp l;
 }
   where
-    at_end : (k : ℕ) (m : DiagramId) (j : ℕ) → k ≡ length ns + j → Stands (n ∷ []) j m → IsNumber t.store m.n
-    at_end k m zero e st = let same : n ≡ m = cc in subst (λ (x : DiagramId). IsNumber t.store x.n) same number
+    at_end : (k : ℕ) (m : DiagramId) (j : ℕ) → k ≡ length ns + j → Stands (n ∷ []) j m → IsDiagramNumber t.store m.n
+    at_end k m zero e st = let same : n ≡ m = cc in subst (λ (x : DiagramId). IsDiagramNumber t.store x.n) same number
     at_end k m (suc j) e st = absurd (stands_none j m st)
 
-    last : (gates : List Gate) (k : ℕ) (p : Operand) (m : DiagramId) → Stands os k p → IsReady trees gates table old p
-        → (j : ℕ) → k ≡ length ns + j → Stands (n ∷ []) j m → Agrees trees gates p t m.n
+    last : (gates : List Gate) (k : ℕ) (p : Operand) (m : DiagramId) → Stands os k p → IsOperandReady trees gates table old p
+        → (j : ℕ) → k ≡ length ns + j → Stands (n ∷ []) j m → HasOperandValues trees gates p t m.n
     last gates k p m sp ready zero e st =
         let here : k ≡ length ns = omega (arith, e) in
         let same : n ≡ m = cc in
         let is : o ≡ p = stands_one os k o p (subst (λ i. Stands os i o) (sym here) so) sp in
         let now = ready_kept trees gates table old s p d.grows ready in
-        subst (λ (x : DiagramId). Agrees trees gates p t x.n) same
-        (subst (λ x. Agrees trees gates x t n.n) is
-        (agrees gates (subst (λ x. IsReady trees gates table s x) (sym is) now)))
+        subst (λ (x : DiagramId). HasOperandValues trees gates p t x.n) same
+        (subst (λ x. HasOperandValues trees gates x t n.n) is
+        (agrees gates (subst (λ x. IsOperandReady trees gates table s x) (sym is) now)))
     last gates k p m sp ready (suc j) e st = absurd (stands_none j m st)
 
     none : (k : ℕ) (p : Operand) → k < length (ns ++ n ∷ []) → Stands os k p → Lacks trees p → ⊥
@@ -69,7 +69,7 @@ drawn_more trees table old os ns s t o n so d g number agrees known = record {
         by (inr e) = d.known k p (let x : k < length ns = grind (arith, h, length-append ns (n ∷ []), e) in x) sp l
 
 -- the joint of the diagrams has the value of that of the operands
-joint_same : (both : Bool) (set : List ℕ) (values : List Bool) (s : Stored) (modes : List ℕ) (ns : List DiagramId)
+joint_same : (both : Bool) (set : List ℕ) (values : List Bool) (s : StoredDiagrams) (modes : List ℕ) (ns : List DiagramId)
     (os : List Operand) → length ns ≡ length os
     → ((k : ℕ) (o : Operand) (n : DiagramId) → Stands os k o → Stands ns k n → value s modes n.n ≡ operand_at set values o)
     → joint_value both s modes ns ≡ joint_at both set values os
@@ -83,7 +83,7 @@ joint_same false set values s modes (n ∷ ns) (o ∷ os) e f = ap₂ (λ x y. x
 
 pub drawn_joint : (trees : List NumberedTree) (table : List DiagramId) (old : Bounded) (both : Bool) (os : List Operand)
     (ns : List DiagramId) (s t : Bounded) (r : ℕ) → length ns ≡ length os → AreDrawn trees table old os ns s
-    → GrowsWithin s t → IsJoint both s ns t.store r → (gates : List Gate) → AreReady trees gates table old os
+    → GrowsWithin s t → IsDiagramJoint both s ns t.store r → (gates : List Gate) → AreReady trees gates table old os
     → AgreesJoint trees gates both os t r
 drawn_joint trees table old both os ns s t r e d g j gates ready = record {
   number = j.number;

@@ -8,21 +8,21 @@ use Rattle.diagram_steps.specs.declared.trees.NumberedTree.{NumberedTree}
 use Rattle.diagram_steps.specs.Trees.{edges_of}
 use Rattle.std.specs.List.{All}
 use Rattle.std.proofs.lemmas.List.Elements.{All-head, All-push, All-tail}
-use Rattle.mode_diagrams.specs.Numbers.{AreNumbersOf, none, passed, one_and, HasFewEdges, IsWide, IsModeNumber, IsNumberOf}
+use Rattle.mode_diagrams.specs.Numbers.{AreNumberedTrees, none, passed, one_and, HasFewEdges, IsWideTree, IsModeNumber, IsNumberOf}
 
 -- the first trees with their modes by number
 pub record AreMade (trees : List ModeTree) (ns : List NumberedTree) : Type 0 where
-  pub numbers : AreNumbersOf trees ns
+  pub numbers : AreNumberedTrees trees ns
   pub few : All HasFewEdges ns
 
 pub passed_push : (trees : List ModeTree) (ns : List NumberedTree) (tree : ModeTree) → tree.edges ≡ []
-    → AreNumbersOf trees ns → AreNumbersOf (trees ++ tree ∷ []) ns
+    → AreNumberedTrees trees ns → AreNumberedTrees (trees ++ tree ∷ []) ns
 passed_push _ _ tree e none = passed e none
 passed_push _ _ tree e (passed {trees = trees} {ns = ns} x are) = passed x (passed_push trees ns tree e are)
 passed_push _ _ tree e (one_and {trees = trees} {ns = ns} is are) = one_and is (passed_push trees ns tree e are)
 
 pub one_push : (trees : List ModeTree) (ns : List NumberedTree) (tree : ModeTree) (n : NumberedTree) → IsNumberOf tree n
-    → AreNumbersOf trees ns → AreNumbersOf (trees ++ tree ∷ []) (ns ++ n ∷ [])
+    → AreNumberedTrees trees ns → AreNumberedTrees (trees ++ tree ∷ []) (ns ++ n ∷ [])
 one_push _ _ tree n i none = one_and i none
 one_push _ _ tree n i (passed {trees = trees} {ns = ns} x are) = passed x (one_push trees ns tree n i are)
 one_push _ _ tree n i (one_and {trees = trees} {ns = ns} is are) = one_and is (one_push trees ns tree n i are)
@@ -99,8 +99,8 @@ so_far_all tree k n es same all f = record {
 }
 
 -- the trees that were numbered have few edges
-pub none_wide : (trees : List ModeTree) (ns : List NumberedTree) → AreNumbersOf trees ns → All HasFewEdges ns
-    → (tree : ModeTree) → IsOneOf trees tree → IsWide tree → ⊥
+pub none_wide : (trees : List ModeTree) (ns : List NumberedTree) → AreNumberedTrees trees ns → All HasFewEdges ns
+    → (tree : ModeTree) → IsOneOf trees tree → IsWideTree tree → ⊥
 none_wide _ _ none few tree o w = one_none tree o
 none_wide _ _ (passed {tree = first} {trees = trees} {ns = ns} e are) few tree o w = ⊎_elim
     (λ p. let here : tree.edges ≡ [] = ap (λ (t : ModeTree). t.edges) (sym p) ∙ e in

@@ -6,7 +6,7 @@ use Rattle.zdd_families.specs.Families.{Family}
 use Rattle.diagram_steps.specs.declared.trees.NumberedEdge.{NumberedEdge}
 use Rattle.diagram_steps.specs.Putting.{put_in, HasWith}
 use Rattle.mode_diagrams.specs.Trees.{IsOnPath, last, earlier}
-use Rattle.mode_diagrams.specs.Sets.{IsWithPath, HasPath}
+use Rattle.mode_diagrams.specs.Sets.{IsWithPath, HasPathEvents}
 
 -- ---- the members of a set with an event
 pub put_members : (e : ℕ) (s : List ℕ) (x : ℕ) → IsOneOf (put_in e s) x → (x ≡ e) ⊎ IsOneOf s x
@@ -69,7 +69,7 @@ no_path : (edges : List NumberedEdge) (e m : ℕ) → m ≡ 0 → IsOnPath edges
 no_path edges e m z (last n st is) = let wrong : ⊥ = omega (arith, z, n) in wrong
 no_path edges e m z (earlier n st p) = let wrong : ⊥ = omega (arith, z, n) in wrong
 
-pub path_none : (edges : List NumberedEdge) (m : ℕ) (f : Family) → m ≡ 0 → HasPath edges m f f
+pub path_none : (edges : List NumberedEdge) (m : ℕ) (f : Family) → m ≡ 0 → HasPathEvents edges m f f
 path_none edges m f z = record {
   sound = λ t h. (t, h, here t);
   whole = λ s h. (s, h, here s);
@@ -107,7 +107,7 @@ module _ (edges : List NumberedEdge) (k m : ℕ) (edge : NumberedEdge) (q : m �
     );
   }
 
-  pub path_more : (f h g : Family) → HasPath edges edge.from f h → HasWith edge.event.n h g → HasPath edges m f g
+  pub path_more : (f h g : Family) → HasPathEvents edges edge.from f h → HasWith edge.event.n h g → HasPathEvents edges m f g
   path_more f h g p w = record {
     sound = λ t b.
         let x = w.sound t b in

@@ -8,7 +8,7 @@ use Rattle.ar_base.proofs.Standing.{stands_one, stands_none, stands_split, one_h
 use Rattle.diagram_steps.specs.declared.trees.NumberedEdge.{NumberedEdge}
 use Rattle.diagram_steps.specs.declared.trees.NumberedTree.{NumberedTree}
 use Rattle.diagram_steps.specs.Trees.{edges_of}
-use Rattle.mode_diagrams.specs.Trees.{IsOnPath, last, earlier, IsNumbered}
+use Rattle.mode_diagrams.specs.Trees.{IsOnPath, last, earlier, IsNumberedTree}
 use Rattle.mode_diagrams.specs.Costs.{IsPathList, AreModeCosts, AreCostsOf, HasDifferentEvents}
 use Rattle.mode_nodes.specs.Bounds.{Costs}
 
@@ -48,7 +48,7 @@ costs_none edges = record {
     low zero h = omega arith
     low (suc m) h = absurd (omega (arith, h))
 
-module _ (tree : NumberedTree) (numbered : IsNumbered tree) (different : HasDifferentEvents tree) where
+module _ (tree : NumberedTree) (numbered : IsNumberedTree tree) (different : HasDifferentEvents tree) where
   -- what is on the path to a mode is the event of an edge before it
   before : (e m : ℕ) → IsOnPath (edges_of tree) e m
       → (j : ℕ) × (x : NumberedEdge) × (j < m) × Stands (edges_of tree) j x × (x.event.n ≡ e)

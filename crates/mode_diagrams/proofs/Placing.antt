@@ -10,10 +10,10 @@ use Rattle.zdd_families.proofs.Laws.{eqb-refl}
 use Rattle.diagram_steps.specs.declared.trees.NumberedEdge.{NumberedEdge}
 use Rattle.diagram_steps.specs.declared.trees.NumberedTree.{NumberedTree}
 use Rattle.diagram_steps.specs.Trees.{edges_of}
-use Rattle.mode_diagrams.specs.Lacking.{same_event, place_of, IsPut, ArePlaced, Puts, HasNoTree, Lacks, LacksOne, LacksSome, own, named}
+use Rattle.mode_diagrams.specs.Lacking.{same_event, tree_place_of, IsTreePut, HavePlacedEvents, PutsTree, HasNoTree, Lacks, LacksOne, LacksSome, own, named}
 
 -- ---- one place after the other
-pub puts_none : {S : Type 0} (place : ℕ) (m : HashMap EventId ℕ S) → Puts [] place m m
+pub puts_none : {S : Type 0} (place : ℕ) (m : HashMap EventId ℕ S) → PutsTree [] place m m
 puts_none place m = record {
   sound = λ e p h. inl h;
   kept = λ e p. p;
@@ -21,23 +21,23 @@ puts_none place m = record {
 }
 
 module _ {S : Type 0} (xs : List NumberedEdge) (x : NumberedEdge) (place : ℕ) (old mid new : HashMap EventId ℕ S)
-    (u : Updates same_event mid new x.event (Some place)) (b : Puts xs place old mid) where
-  found : (e : EventId) (p : ℕ) → place_of new e ≡ Some p → (t : Bool) → same_event x.event e ≡ t
-      → (place_of old e ≡ Some p)
+    (u : Updates same_event mid new x.event (Some place)) (b : PutsTree xs place old mid) where
+  found : (e : EventId) (p : ℕ) → tree_place_of new e ≡ Some p → (t : Bool) → same_event x.event e ≡ t
+      → (tree_place_of old e ≡ Some p)
       ⊎ ((p ≡ place) × (edge : NumberedEdge) × IsOneOf (xs ++ x ∷ []) edge × (edge.event.n ≡ e.n))
   found e p h true t =
-      let s : Some p ≡ Some place = sym h ∙ u.0 e ∙ ap (λ c. cond c (Some place) (place_of mid e)) t in
+      let s : Some p ≡ Some place = sym h ∙ u.0 e ∙ ap (λ c. cond c (Some place) (tree_place_of mid e)) t in
       let y = eqb-true x.event.n e.n (and_parts (eqb x.event.n e.n) true t).0 in
       inr (cc, x, one_right xs (x ∷ []) x (one_first x []), y)
   found e p h false t =
-      let s : place_of mid e ≡ Some p = sym (u.0 e ∙ ap (λ c. cond c (Some place) (place_of mid e)) t) ∙ h in
+      let s : tree_place_of mid e ≡ Some p = sym (u.0 e ∙ ap (λ c. cond c (Some place) (tree_place_of mid e)) t) ∙ h in
       ⊎_elim (λ o. inl o) (λ w. inr (w.0, w.1, one_left xs (x ∷ []) w.1 w.2, w.3)) (b.sound e p s)
 
-  still : (e : EventId) → IsPut mid e → (t : Bool) → same_event x.event e ≡ t → IsPut new e
-  still e p true t = (place, u.0 e ∙ ap (λ c. cond c (Some place) (place_of mid e)) t)
-  still e p false t = (p.0, u.0 e ∙ ap (λ c. cond c (Some place) (place_of mid e)) t ∙ p.1)
+  still : (e : EventId) → IsTreePut mid e → (t : Bool) → same_event x.event e ≡ t → IsTreePut new e
+  still e p true t = (place, u.0 e ∙ ap (λ c. cond c (Some place) (tree_place_of mid e)) t)
+  still e p false t = (p.0, u.0 e ∙ ap (λ c. cond c (Some place) (tree_place_of mid e)) t ∙ p.1)
 
-  pub puts_more : Puts (xs ++ x ∷ []) place old new
+  pub puts_more : PutsTree (xs ++ x ∷ []) place old new
   puts_more = record {
     sound = λ e p h. found e p h (same_event x.event e) refl;
     kept = λ e p. still e (b.kept e p) (same_event x.event e) refl;
@@ -47,7 +47,7 @@ module _ {S : Type 0} (xs : List NumberedEdge) (x : NumberedEdge) (place : ℕ) 
         (λ (q : x ≡ edge).
         let n : x.event.n ≡ e.n = ap (λ (y : NumberedEdge). y.event.n) q ∙ is in
         let t : same_event x.event e ≡ true = ap (λ m. eqb m e.n && true) n ∙ ap (λ c. c && true) (eqb-refl e.n) in
-        (place, u.0 e ∙ ap (λ c. cond c (Some place) (place_of mid e)) t))
+        (place, u.0 e ∙ ap (λ c. cond c (Some place) (tree_place_of mid e)) t))
         (λ z. absurd (one_none edge z))
         (one_cases x [] edge r))
         (one_split xs (x ∷ []) edge o);
@@ -55,18 +55,18 @@ module _ {S : Type 0} (xs : List NumberedEdge) (x : NumberedEdge) (place : ℕ) 
 
 -- ---- tree after tree
 pub placed_none : {S : Type 0} (trees : List NumberedTree) (m : HashMap EventId ℕ S) → m.entries ≡ []
-    → ArePlaced trees 0 m
+    → HavePlacedEvents trees 0 m
 placed_none trees m n = record {
   sound = λ e p h. absurd (nothing e p h);
   whole = λ k tree e lt st h. let w : ⊥ = omega (arith, lt) in absurd w;
 }
   where
-    nothing : (e : EventId) (p : ℕ) → place_of m e ≡ Some p → ⊥
+    nothing : (e : EventId) (p : ℕ) → tree_place_of m e ≡ Some p → ⊥
     nothing e p h = let g = rw n at h in cc
 
 pub placed_more : {S : Type 0} (trees : List NumberedTree) (k : ℕ) (tree : NumberedTree) (edges : List NumberedEdge)
-    (old new : HashMap EventId ℕ S) → Stands trees k tree → edges ≡ edges_of tree → Puts edges k old new
-    → ArePlaced trees k old → ArePlaced trees (k + 1) new
+    (old new : HashMap EventId ℕ S) → Stands trees k tree → edges ≡ edges_of tree → PutsTree edges k old new
+    → HavePlacedEvents trees k old → HavePlacedEvents trees (k + 1) new
 placed_more trees k tree edges old new st is u a = record {
   sound = λ e p h. ⊎_elim
       (λ o. a.sound e p o)
@@ -85,7 +85,7 @@ placed_more trees k tree edges old new st is u a = record {
 }
 
 pub placed_all : {S : Type 0} (trees : List NumberedTree) (k : ℕ) (m : HashMap EventId ℕ S) → length trees ≤ k
-    → ArePlaced trees k m → ArePlaced trees (length trees) m
+    → HavePlacedEvents trees k m → HavePlacedEvents trees (length trees) m
 placed_all trees k m h a = record {
   sound = a.sound;
   whole = λ j t e lt st he. a.whole j t e (omega (arith, lt, h)) st he;

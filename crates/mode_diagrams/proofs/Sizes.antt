@@ -8,7 +8,7 @@ use Rattle.ar_base.proofs.Standing.{stands_one, stands_within, stands_some, one_
 use Rattle.ar_firing.specs.Cuts.{HasAtMost}
 use Rattle.firable_families.proofs.Few.{no_more}
 use Rattle.mode_nodes.specs.Diagrams.{mode_of}
-use Rattle.mode_nodes.specs.Bounds.{Costs, Bounded, cost, total}
+use Rattle.mode_nodes.specs.Bounds.{Costs, Bounded, cost, total_cost}
 use Rattle.mode_nodes.proofs.Totals.{one, total_none, nothing_costs}
 use Rattle.diagram_steps.specs.declared.trees.NumberedTree.{NumberedTree}
 use Rattle.diagram_steps.specs.Trees.{edges_of}
@@ -46,7 +46,7 @@ module _ (costs : Costs) (trees : List NumberedTree) (modes : List ℕ) (are : A
 
   more : (i : ℕ) (tree : NumberedTree) → Stands trees i tree → (path : List ℕ)
       → IsPathList (edges_of tree) (mode_of modes i) path → length path ≡ cost costs i (mode_of modes i)
-      → Spread trees (i + 1) modes (total costs (i + 1) modes) → Spread trees i modes (total costs i modes)
+      → Spread trees (i + 1) modes (total_cost costs (i + 1) modes) → Spread trees i modes (total_cost costs i modes)
   more i tree st path is long rest = record {
     list = path ++ rest.list;
     differ = differ_append path rest.list (all_differ path is.different) rest.differ
@@ -71,7 +71,7 @@ module _ (costs : Costs) (trees : List NumberedTree) (modes : List ℕ) (are : A
 
   spread : (d i : ℕ) → i + d ≡ length trees
       → ((k : ℕ) (tree : NumberedTree) → i ≤ k → Stands trees k tree → mode_of modes k ≤ length (edges_of tree))
-      → Spread trees i modes (total costs i modes)
+      → Spread trees i modes (total_cost costs i modes)
   spread zero i e within = record {
     list = [];
     differ = nothing;
@@ -86,17 +86,17 @@ module _ (costs : Costs) (trees : List NumberedTree) (modes : List ℕ) (are : A
       (spread d (i + 1) (omega (arith, e)) (λ k tree l st. within k tree (omega (arith, l)) st))
 
   module _ (i k : ℕ) (set : List ℕ) (inside : i ≤ length trees) (is : IsSetFrom trees i modes set) where
-    all : Spread trees i modes (total costs i modes)
+    all : Spread trees i modes (total_cost costs i modes)
     all = spread (length trees - i) i (omega (arith, inside)) is.within
 
-    pub few_of_cheap : total costs i modes ≤ k → HasAtMost k set
+    pub few_of_cheap : total_cost costs i modes ≤ k → HasAtMost k set
     few_of_cheap h = record {
       list = all.list;
       within = record { each = λ e o. let w = is.sound e o in all.whole w.0 w.1 e w.2 w.3 w.4 };
       few = omega (arith, all.long, h);
     }
 
-    pub cheap_of_few : HasAtMost k set → total costs i modes ≤ k
+    pub cheap_of_few : HasAtMost k set → total_cost costs i modes ≤ k
     cheap_of_few h =
         let l = no_more all.list h.list all.differ
         (λ e o. let w = all.sound e o in h.within.each e (is.whole w.0 w.1 e w.2 w.3 w.4)) in
@@ -115,7 +115,7 @@ pub enough_for_few : (trees : List NumberedTree) (s : Bounded) (k : ℕ) → Are
 enough_for_few trees s k are apart e = record {
   short = (let long = are.long in omega (arith, long));
   few = λ modes set is h. few_of_cheap s.costs trees modes are apart 0 k set (omega arith) is
-      (subst (λ m. total s.costs 0 modes ≤ m) e h);
-  all = λ modes set is u. subst (λ m. total s.costs 0 modes ≤ m) (sym e)
+      (subst (λ m. total_cost s.costs 0 modes ≤ m) e h);
+  all = λ modes set is u. subst (λ m. total_cost s.costs 0 modes ≤ m) (sym e)
       (cheap_of_few s.costs trees modes are apart 0 k set (omega arith) is u);
 }

@@ -9,8 +9,8 @@ use Rattle.zdd_families.specs.Families.{Family, has}
 use Rattle.zdd_families.specs.FamiliesInside.{union}
 use Rattle.zdd_families.proofs.Members.{has-union}
 use Rattle.zdd_nodes.specs.Nodes as nodes
-use Rattle.mode_nodes.specs.Diagrams.{mode_of, value, IsNumber, IsFrom, IsSoundStore}
-use Rattle.mode_nodes.specs.Cuts.{IsTaken}
+use Rattle.mode_nodes.specs.Diagrams.{mode_of, value, IsDiagramNumber, IsFrom, IsSoundDiagramStore}
+use Rattle.mode_nodes.specs.Cuts.{IsLeftAt}
 use Rattle.mode_nodes.proofs.Values.{value-false}
 use Rattle.mode_nodes.specs.Bounds.{Bounded, cost}
 use Rattle.mode_nodes.proofs.Asking.{asks}
@@ -18,8 +18,8 @@ use Rattle.mode_nodes.proofs.Totals.{one, total_none, total_same, left_enough, t
 use Rattle.diagram_steps.specs.declared.trees.NumberedEdge.{NumberedEdge}
 use Rattle.diagram_steps.specs.declared.trees.NumberedTree.{NumberedTree}
 use Rattle.diagram_steps.specs.Trees.{edges_of}
-use Rattle.mode_diagrams.specs.Trees.{IsOnPath, last, earlier, IsNumbered, AreNumbered, IsSetFrom}
-use Rattle.mode_diagrams.specs.Sets.{HasSets, HasPath, IsWithPath, with_most, IsTrueFrom, IsTrueAtMode, IsTrueBelow}
+use Rattle.mode_diagrams.specs.Trees.{IsOnPath, last, earlier, IsNumberedTree, AreNumbered, IsSetFrom}
+use Rattle.mode_diagrams.specs.Sets.{HasSets, HasPathEvents, IsWithPath, with_most, IsTrueFrom, IsTrueAtMode, IsTrueBelow}
 
 -- ---- a list of modes with another mode of one tree
 pub put_mode : List ℕ → ℕ → ℕ → List ℕ
@@ -52,7 +52,7 @@ record PathList (edges : List NumberedEdge) (m : ℕ) : Type 0 where
   pub sound : (e : ℕ) → IsOneOf set e → IsOnPath edges e m
   pub whole : (e : ℕ) → IsOnPath edges e m → IsOneOf set e
 
-path_list : (tree : NumberedTree) → IsNumbered tree → (fuel m : ℕ) → m < fuel → m ≤ length (edges_of tree)
+path_list : (tree : NumberedTree) → IsNumberedTree tree → (fuel m : ℕ) → m < fuel → m ≤ length (edges_of tree)
     → PathList (edges_of tree) m
 path_list tree numbered zero m f h = absurd (omega (arith, f))
 path_list tree numbered (suc fuel) zero f h = record {
@@ -208,11 +208,11 @@ set_from trees i modes numbered ends within =
 
 -- ---- one step
 module _ (trees : List NumberedTree) (numbered : AreNumbered trees) (i : ℕ) (tree : NumberedTree)
-    (stands : Stands trees i tree) (s : Bounded) (sound : IsSoundStore s.store) (n m r : ℕ)
-    (taken : IsTaken s.store i m n r) (from : IsFrom s.store.nodes (i + 1) r) (m_in : m ≤ length (edges_of tree))
+    (stands : Stands trees i tree) (s : Bounded) (sound : IsSoundDiagramStore s.store) (n m r : ℕ)
+    (taken : IsLeftAt s.store i m n r) (from : IsFrom s.store.nodes (i + 1) r) (m_in : m ≤ length (edges_of tree))
     (paid : cost s.costs i m ≤ s.most) (f g : Family)
     (later : HasSets (IsTrueFrom trees (i + 1) (with_most s (s.most - cost s.costs i m)) r) f)
-    (here : HasPath (edges_of tree) m f g) where
+    (here : HasPathEvents (edges_of tree) m f g) where
   step_sound : (t : List ℕ) → has g t ≡ true → IsTrueAtMode trees i s n m t
   step_sound t h =
       let x = here.sound t h in
@@ -358,8 +358,8 @@ below_all trees i tree s n mode f st e a = record {
 }
 
 -- ---- where no tree is left, and where the diagram is false
-pub no_tree : (trees : List NumberedTree) (i : ℕ) (s : Bounded) (sound : IsSoundStore s.store) (n : ℕ) (f : Family)
-    → i ≡ length trees → length s.costs ≤ length trees → IsNumber s.store n → IsFrom s.store.nodes i n → (holds : Bool)
+pub no_tree : (trees : List NumberedTree) (i : ℕ) (s : Bounded) (sound : IsSoundDiagramStore s.store) (n : ℕ) (f : Family)
+    → i ≡ length trees → length s.costs ≤ length trees → IsDiagramNumber s.store n → IsFrom s.store.nodes i n → (holds : Bool)
     → holds ≡ value s.store [] n → f ≡ cond holds ([] ∷ []) [] → HasSets (IsTrueFrom trees i s n) f
 no_tree trees i s sound n f e short number from true h is = record {
   sound = λ t p.

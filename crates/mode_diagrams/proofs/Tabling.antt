@@ -5,12 +5,12 @@ use Rattle.ar_base.proofs.Standing.{stands_none, stands_split}
 use Rattle.eq_core.specs.Gates.{Operand, GateIs, Gate}
 use Rattle.eq_core.specs.Ordered.{AreOrdered}
 use Rattle.eq_core.proofs.Telling.{place_below}
-use Rattle.mode_nodes.specs.Diagrams.{DiagramId, IsNumber}
+use Rattle.mode_nodes.specs.Diagrams.{DiagramId, IsDiagramNumber}
 use Rattle.mode_nodes.specs.Bounds.{Bounded, GrowsWithin}
 use Rattle.mode_nodes.proofs.Growing.{still}
 use Rattle.diagram_steps.specs.declared.trees.NumberedTree.{NumberedTree}
 use Rattle.diagram_steps.specs.Joints.{AreTabled}
-use Rattle.mode_diagrams.specs.Agreement.{Agrees, AgreesJoint, IsReady, AreReady, AreClosed}
+use Rattle.mode_diagrams.specs.Agreement.{HasOperandValues, AgreesJoint, IsOperandReady, AreReady, AreClosedMarks}
 use Rattle.mode_diagrams.proofs.Laws.{agrees_kept, gate_agrees}
 
 -- the first k gates have their places in the table, and each that is marked has its diagram there
@@ -18,7 +18,7 @@ pub record IsDrawing (trees : List NumberedTree) (gates : List Gate) (marks : Li
     (table : List DiagramId) (s : Bounded) : Type 0 where
   pub long : length table ≡ k
   pub numbers : AreTabled table s.store
-  pub drawn : (g : ℕ) (n : DiagramId) → Stands table g n → Stands marks g true → Agrees trees gates (GateIs g true) s n.n
+  pub drawn : (g : ℕ) (n : DiagramId) → Stands table g n → Stands marks g true → HasOperandValues trees gates (GateIs g true) s n.n
 
 pub drawing_begins : (trees : List NumberedTree) (gates : List Gate) (marks : List Bool) (s : Bounded)
     → IsDrawing trees gates marks 0 [] s
@@ -29,7 +29,7 @@ drawing_begins trees gates marks s = record {
 }
 
 module _ (trees : List NumberedTree) (gates : List Gate) (root : Operand) (marks : List Bool)
-    (closed : AreClosed gates root marks) where
+    (closed : AreClosedMarks gates root marks) where
   -- what a marked gate's operands name is drawn
   pub gate_ready : (k : ℕ) (gate : Gate) (table : List DiagramId) (s : Bounded) → Stands gates k gate
       → Stands marks k true → IsDrawing trees gates marks k table s → AreReady trees gates table s gate.operands
@@ -40,12 +40,12 @@ module _ (trees : List NumberedTree) (gates : List Gate) (root : Operand) (marks
   }
 
   pub root_ready : (k : ℕ) (table : List DiagramId) (s : Bounded) → IsDrawing trees gates marks k table s
-      → IsReady trees gates table s root
+      → IsOperandReady trees gates table s root
   root_ready k table s d = record { gate = λ g sign n e at. d.drawn g n at (closed.own g sign e) }
 
   pub drawing_next : (k : ℕ) (gate : Gate) (table : List DiagramId) (s t : Bounded) (n : DiagramId)
       → Stands gates k gate → AreOrdered gates → IsDrawing trees gates marks k table s → GrowsWithin s t
-      → IsNumber t.store n.n → (Stands marks k true → AgreesJoint trees gates gate.both gate.operands t n.n)
+      → IsDiagramNumber t.store n.n → (Stands marks k true → AgreesJoint trees gates gate.both gate.operands t n.n)
       → IsDrawing trees gates marks (k + 1) (table ++ n ∷ []) t
   drawing_next k gate table s t n st ordered d grows number agrees = record {
     long = omega (arith, d.long, length-append table (n ∷ []));
@@ -61,17 +61,17 @@ module _ (trees : List NumberedTree) (gates : List Gate) (root : Operand) (marks
         (stands_split table (n ∷ []) g x at);
   }
     where
-      last_number : (g : ℕ) (x : DiagramId) (j : ℕ) → Stands (n ∷ []) j x → IsNumber t.store x.n
-      last_number g x zero so = let same : n ≡ x = cc in subst (λ (y : DiagramId). IsNumber t.store y.n) same number
+      last_number : (g : ℕ) (x : DiagramId) (j : ℕ) → Stands (n ∷ []) j x → IsDiagramNumber t.store x.n
+      last_number g x zero so = let same : n ≡ x = cc in subst (λ (y : DiagramId). IsDiagramNumber t.store y.n) same number
       last_number g x (suc j) so = absurd (stands_none j x so)
 
       new : (g : ℕ) (x : DiagramId) (j : ℕ) → g ≡ length table + j → Stands (n ∷ []) j x → Stands marks g true
-          → Agrees trees gates (GateIs g true) t x.n
+          → HasOperandValues trees gates (GateIs g true) t x.n
       new g x zero q so m =
           let same : n ≡ x = cc in
           let here : k ≡ g = omega (arith, q, d.long) in
           let a = gate_agrees trees gates k gate t n.n st (place_below (ordered.each k gate st))
           (agrees (subst (λ i. Stands marks i true) (sym here) m)) in
-          subst (λ i. Agrees trees gates (GateIs i true) t x.n) here
-          (subst (λ (y : DiagramId). Agrees trees gates (GateIs k true) t y.n) same a)
+          subst (λ i. HasOperandValues trees gates (GateIs i true) t x.n) here
+          (subst (λ (y : DiagramId). HasOperandValues trees gates (GateIs k true) t y.n) same a)
       new g x (suc j) q so m = absurd (stands_none j x so)

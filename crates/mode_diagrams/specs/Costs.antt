@@ -2,7 +2,7 @@
 use Rattle.std.specs.Prelude.{◌≡◌, ◌≤◌, ℕ, suc, List, Option, length, slice_index_or}
 use Rattle.ar_base.specs.Lists.{Stands, AreDifferent, IsOneOf}
 use Rattle.ar_firing.specs.CutsInside.{UpTo}
-use Rattle.mode_nodes.specs.Bounds.{Costs, Bounded, Allows}
+use Rattle.mode_nodes.specs.Bounds.{Costs, Bounded, AreAffordable}
 use Rattle.diagram_steps.specs.declared.trees.NumberedEdge.{NumberedEdge}
 use Rattle.diagram_steps.specs.declared.trees.NumberedTree.{NumberedTree}
 use Rattle.diagram_steps.specs.Trees.{edges_of}
@@ -39,5 +39,5 @@ pub record AreCostsOf (trees : List NumberedTree) (count : ℕ) (costs : Costs) 
 -- what the store's modes cost is enough exactly at the sets of at most as many events as are asked for
 pub record IsEnoughFor (order : Option ℕ) (trees : List NumberedTree) (s : Bounded) : Type 0 where
   pub short : length s.costs ≤ length trees
-  pub few : (modes set : List ℕ) → IsSetFrom trees 0 modes set → Allows s modes → UpTo order set
-  pub all : (modes set : List ℕ) → IsSetFrom trees 0 modes set → UpTo order set → Allows s modes
+  pub few : (modes set : List ℕ) → IsSetFrom trees 0 modes set → AreAffordable s modes → UpTo order set
+  pub all : (modes set : List ℕ) → IsSetFrom trees 0 modes set → UpTo order set → AreAffordable s modes

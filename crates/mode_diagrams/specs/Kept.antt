@@ -2,7 +2,7 @@
 use Rattle.std.specs.Prelude.{◌≡◌, ◌⊎◌, ℕ, ◌+◌, Bool, true, ◌&&◌, eqb, List, length, Some}
 use Rattle.std.specs.Map.{lookup}
 use Rattle.ar_base.specs.Lists.{Stands}
-use Rattle.zdd_nodes.specs.Nodes.{NodeId, Stored, family, IsNumber}
+use Rattle.zdd_nodes.specs.Nodes.{NodeId, Stored, family, IsFamilyNumber}
 use Rattle.mode_nodes.specs.Bounds.{Bounded}
 use Rattle.diagram_steps.specs.declared.trees.NumberedTree.{NumberedTree}
 use Rattle.mode_diagrams.specs.declared.held.State.{State}
@@ -22,17 +22,17 @@ abbrev pub IsTrueIn : List NumberedTree → Bounded → State → List ℕ → T
 IsTrueIn trees s k set = IsTrueFrom trees k.place (with_most s k.most) k.diagram.n set
 
 -- n is the number of the state's family
-pub record IsFamilyOf (trees : List NumberedTree) (s : Bounded) (made : Stored) (k : State) (n : ℕ) : Type 0 where
-  pub in_store : IsNumber made n
+pub record IsStateFamily (trees : List NumberedTree) (s : Bounded) (made : Stored) (k : State) (n : ℕ) : Type 0 where
+  pub in_store : IsFamilyNumber made n
   pub sets : HasSets (IsTrueIn trees s k) (family made n)
 
 -- the same of each state that is held
 pub record AreHeld (trees : List NumberedTree) (s : Bounded) (made : Stored) (entries : List (State × NodeId))
     : Type 0 where
-  pub each : (k : State) (n : NodeId) → lookup (state_eq k) entries ≡ Some n → IsFamilyOf trees s made k n.n
+  pub each : (k : State) (n : NodeId) → lookup (state_eq k) entries ≡ Some n → IsStateFamily trees s made k n.n
 
 -- for each number of the first store that of the same family in the second, or 0 where it is not copied yet
 pub record AreCopied (source made : Stored) (copies : List NodeId) : Type 0 where
   pub long : length copies ≡ length source.families + 2
   pub each : (k : ℕ) (n : NodeId) → Stands copies k n
-      → (n.n ≡ 0) ⊎ (IsNumber made n.n × (family made n.n ≡ family source k))
+      → (n.n ≡ 0) ⊎ (IsFamilyNumber made n.n × (family made n.n ≡ family source k))

@@ -4,12 +4,12 @@ use Rattle.std.specs.HashMap.{HashMap, get}
 use Rattle.ar_base.specs.Lists.{Stands, IsOneOf}
 use Rattle.ar_base.specs.NumbersInside.{EventId}
 use Rattle.eq_core.specs.Gates.{Operand, EventIs, Gate}
-use Rattle.mode_nodes.specs.Diagrams.{Stored}
+use Rattle.mode_nodes.specs.Diagrams.{StoredDiagrams}
 use Rattle.mode_nodes.specs.declared.store.DiagramFault.{DiagramFault}
 use Rattle.mode_nodes.specs.declared.store.DiagramFault.TheVariants as fault
 use Rattle.diagram_steps.specs.declared.trees.NumberedEdge.{NumberedEdge}
 use Rattle.diagram_steps.specs.declared.trees.NumberedTree.{NumberedTree}
-use Rattle.diagram_steps.specs.Trees.{HasEvent}
+use Rattle.diagram_steps.specs.Trees.{TreeHasEvent}
 use Rattle.mode_diagrams.specs.declared.drawing.Undrawn.{Undrawn}
 use Rattle.mode_diagrams.specs.declared.drawing.Undrawn.TheVariants as undrawn
 
@@ -18,30 +18,30 @@ abbrev pub same_event : EventId → EventId → Bool
 same_event a b = eqb a.n b.n && true
 
 -- the place that is put for an event
-abbrev pub place_of : {S : Type 0} → HashMap EventId ℕ S → EventId → Option ℕ
-place_of places e = get same_event places e
+abbrev pub tree_place_of : {S : Type 0} → HashMap EventId ℕ S → EventId → Option ℕ
+tree_place_of places e = get same_event places e
 
 -- a place is put for the event
-abbrev pub IsPut : {S : Type 0} → HashMap EventId ℕ S → EventId → Type 0
-IsPut places e = (p : ℕ) × (place_of places e ≡ Some p)
+abbrev pub IsTreePut : {S : Type 0} → HashMap EventId ℕ S → EventId → Type 0
+IsTreePut places e = (p : ℕ) × (tree_place_of places e ≡ Some p)
 
 -- what is put for an event is the place of a tree that has it, and for the events of the first so many trees a place is put
-pub record ArePlaced {S : Type 0} (trees : List NumberedTree) (count : ℕ) (places : HashMap EventId ℕ S) : Type 0 where
-  pub sound : (e : EventId) (p : ℕ) → place_of places e ≡ Some p
-      → (tree : NumberedTree) × Stands trees p tree × HasEvent tree e.n
-  pub whole : (k : ℕ) (tree : NumberedTree) (e : EventId) → k < count → Stands trees k tree → HasEvent tree e.n
-      → IsPut places e
+pub record HavePlacedEvents {S : Type 0} (trees : List NumberedTree) (count : ℕ) (places : HashMap EventId ℕ S) : Type 0 where
+  pub sound : (e : EventId) (p : ℕ) → tree_place_of places e ≡ Some p
+      → (tree : NumberedTree) × Stands trees p tree × TreeHasEvent tree e.n
+  pub whole : (k : ℕ) (tree : NumberedTree) (e : EventId) → k < count → Stands trees k tree → TreeHasEvent tree e.n
+      → IsTreePut places e
 
 -- this place is put for the events of these edges, and nothing else changed
-pub record Puts {S : Type 0} (edges : List NumberedEdge) (place : ℕ) (old new : HashMap EventId ℕ S) : Type 0 where
-  pub sound : (e : EventId) (p : ℕ) → place_of new e ≡ Some p → (place_of old e ≡ Some p)
+pub record PutsTree {S : Type 0} (edges : List NumberedEdge) (place : ℕ) (old new : HashMap EventId ℕ S) : Type 0 where
+  pub sound : (e : EventId) (p : ℕ) → tree_place_of new e ≡ Some p → (tree_place_of old e ≡ Some p)
       ⊎ ((p ≡ place) × (edge : NumberedEdge) × IsOneOf edges edge × (edge.event.n ≡ e.n))
-  pub kept : (e : EventId) → IsPut old e → IsPut new e
-  pub put : (e : EventId) (edge : NumberedEdge) → IsOneOf edges edge → edge.event.n ≡ e.n → IsPut new e
+  pub kept : (e : EventId) → IsTreePut old e → IsTreePut new e
+  pub put : (e : EventId) (edge : NumberedEdge) → IsOneOf edges edge → edge.event.n ≡ e.n → IsTreePut new e
 
 -- no tree has the event
 pub record HasNoTree (trees : List NumberedTree) (e : ℕ) : Type 0 where
-  pub none : (k : ℕ) (tree : NumberedTree) → Stands trees k tree → HasEvent tree e → ⊥
+  pub none : (k : ℕ) (tree : NumberedTree) → Stands trees k tree → TreeHasEvent tree e → ⊥
 
 -- the operand is an event that no tree has
 pub record Lacks (trees : List NumberedTree) (o : Operand) : Type 0 where
@@ -63,7 +63,7 @@ pub data LacksSome (trees : List NumberedTree) (gates : List Gate) (root : Opera
       → LacksSome trees gates root marks
 
 -- the store has its limit of nodes
-abbrev pub IsFull : Stored → Type 0
+abbrev pub IsFull : StoredDiagrams → Type 0
 IsFull s = length s.nodes ≡ s.limit
 
 -- why there is no diagram, where the store gave no node

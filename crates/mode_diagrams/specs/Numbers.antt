@@ -40,22 +40,22 @@ abbrev pub HasFewEdges : NumberedTree → Type 0
 HasFewEdges n = length (edges_of n) ≤ 64
 
 -- more than 64 edges
-abbrev pub IsWide : ModeTree → Type 0
-IsWide tree = 64 < length tree.edges
+abbrev pub IsWideTree : ModeTree → Type 0
+IsWideTree tree = 64 < length tree.edges
 
 -- one of the trees has more than 64 edges
 pub record HasWideTree (trees : List ModeTree) : Type 0 where
   pub tree : ModeTree
   pub one : IsOneOf trees tree
-  pub wide : IsWide tree
+  pub wide : IsWideTree tree
 
 -- tree by tree, where trees with no edge are passed over
-pub data AreNumbersOf : List ModeTree → List NumberedTree → Type 0 where
-  none : AreNumbersOf [] []
-  passed : {tree : ModeTree} {trees : List ModeTree} {ns : List NumberedTree} → tree.edges ≡ [] → AreNumbersOf trees ns
-      → AreNumbersOf (tree ∷ trees) ns
+pub data AreNumberedTrees : List ModeTree → List NumberedTree → Type 0 where
+  none : AreNumberedTrees [] []
+  passed : {tree : ModeTree} {trees : List ModeTree} {ns : List NumberedTree} → tree.edges ≡ [] → AreNumberedTrees trees ns
+      → AreNumberedTrees (tree ∷ trees) ns
   one_and : {tree : ModeTree} {n : NumberedTree} {trees : List ModeTree} {ns : List NumberedTree} → IsNumberOf tree n
-      → AreNumbersOf trees ns → AreNumbersOf (tree ∷ trees) (n ∷ ns)
+      → AreNumberedTrees trees ns → AreNumberedTrees (tree ∷ trees) (n ∷ ns)
 
 -- what numbered trees say of the trees
 pub record IsByModes (trees : List ModeTree) (ns : List NumberedTree) : Type 0 where
@@ -66,5 +66,5 @@ pub record IsByModes (trees : List ModeTree) (ns : List NumberedTree) : Type 0 w
   pub firable : (modes set : List ℕ) → IsSetFrom ns 0 modes set → IsFirableOf trees set
 
 abbrev pub FirableByModes : Type 0
-FirableByModes = (trees : List ModeTree) (numbers ns : List NumberedTree) → AreTrees trees → AreNumbersOf trees numbers
+FirableByModes = (trees : List ModeTree) (numbers ns : List NumberedTree) → AreTrees trees → AreNumberedTrees trees numbers
     → IsPermutation numbers ns → Ascend ns → IsByModes trees ns

@@ -4,7 +4,7 @@ use Rattle.ar_base.specs.Lists.{Stands, IsOneOf}
 use Rattle.ar_base.specs.Sets.{Within}
 use Rattle.zdd_families.specs.Families.{Family, has}
 use Rattle.mode_nodes.specs.Diagrams.{mode_of, value}
-use Rattle.mode_nodes.specs.Bounds.{Bounded, total}
+use Rattle.mode_nodes.specs.Bounds.{Bounded, total_cost}
 use Rattle.diagram_steps.specs.declared.trees.NumberedEdge.{NumberedEdge}
 use Rattle.diagram_steps.specs.declared.trees.NumberedTree.{NumberedTree}
 use Rattle.diagram_steps.specs.Trees.{edges_of}
@@ -24,7 +24,7 @@ pub record IsWithPath (edges : List NumberedEdge) (m : ℕ) (s t : List ℕ) : T
   pub each : (e : ℕ) → IsOneOf t e ↔ (IsOnPath edges e m ⊎ IsOneOf s e)
 
 -- g has the sets of f, each with the events on the path to mode m, and no other
-pub record HasPath (edges : List NumberedEdge) (m : ℕ) (f g : Family) : Type 0 where
+pub record HasPathEvents (edges : List NumberedEdge) (m : ℕ) (f g : Family) : Type 0 where
   pub sound : (t : List ℕ) → has g t ≡ true → (s : List ℕ) × (has f s ≡ true) × IsWithPath edges m s t
   pub whole : (s : List ℕ) → has f s ≡ true → (t : List ℕ) × (has g t ≡ true) × IsWithPath edges m s t
 
@@ -37,7 +37,7 @@ with_most s most = record { store = s.store; costs = s.costs; most = most }
 pub record IsTrueFrom (trees : List NumberedTree) (i : ℕ) (s : Bounded) (n : ℕ) (set : List ℕ) : Type 0 where
   pub modes : List ℕ
   pub are : IsSetFrom trees i modes set
-  pub cheap : total s.costs i modes ≤ s.most
+  pub cheap : total_cost s.costs i modes ≤ s.most
   pub holds : value s.store modes n ≡ true
 
 -- such a set, where tree i is at mode m
@@ -45,7 +45,7 @@ pub record IsTrueAtMode (trees : List NumberedTree) (i : ℕ) (s : Bounded) (n m
   pub modes : List ℕ
   pub mode : mode_of modes i ≡ m
   pub are : IsSetFrom trees i modes set
-  pub cheap : total s.costs i modes ≤ s.most
+  pub cheap : total_cost s.costs i modes ≤ s.most
   pub holds : value s.store modes n ≡ true
 
 -- such a set, where tree i is at one of its first so many modes

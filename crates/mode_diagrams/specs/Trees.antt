@@ -4,7 +4,7 @@ use Rattle.ar_base.specs.Lists.{Stands, IsOneOf}
 use Rattle.mode_nodes.specs.Diagrams.{mode_of}
 use Rattle.diagram_steps.specs.declared.trees.NumberedEdge.{NumberedEdge}
 use Rattle.diagram_steps.specs.declared.trees.NumberedTree.{NumberedTree}
-use Rattle.diagram_steps.specs.Trees.{edges_of, HasEvent}
+use Rattle.diagram_steps.specs.Trees.{edges_of, TreeHasEvent}
 
 -- the event is on the path to mode n: it is that of the edge that enters the mode, or on the path to the mode that this
 -- edge leaves; no event is on the path to mode 0
@@ -14,16 +14,16 @@ pub data IsOnPath (edges : List NumberedEdge) (e : ℕ) : ℕ → Type 0 where
       → IsOnPath edges e n
 
 -- each edge leaves mode 0 or one that an earlier edge enters
-pub record IsNumbered (tree : NumberedTree) : Type 0 where
+pub record IsNumberedTree (tree : NumberedTree) : Type 0 where
   pub each : (m : ℕ) (edge : NumberedEdge) → Stands (edges_of tree) m edge → edge.from ≤ m
 
 -- the same of each tree
 pub record AreNumbered (trees : List NumberedTree) : Type 0 where
-  pub each : (k : ℕ) (tree : NumberedTree) → Stands trees k tree → IsNumbered tree
+  pub each : (k : ℕ) (tree : NumberedTree) → Stands trees k tree → IsNumberedTree tree
 
 -- no event has edges in two of the trees
 pub record AreApart (trees : List NumberedTree) : Type 0 where
-  pub one : (j k : ℕ) (s t : NumberedTree) (e : ℕ) → Stands trees j s → Stands trees k t → HasEvent s e → HasEvent t e
+  pub one : (j k : ℕ) (s t : NumberedTree) (e : ℕ) → Stands trees j s → Stands trees k t → TreeHasEvent s e → TreeHasEvent t e
       → j ≡ k
 
 -- the set has exactly the events on the paths to these modes, a mode a tree, in the trees from place i on

@@ -2,7 +2,7 @@
 
 ghost use Rattle.std.specs.Prelude.{◌≡◌, ◌+◌, IfOk, length, replicate};
 ghost use Rattle.zdd_families.specs.Sections.{IsCounted};
-ghost use Rattle.zdd_nodes.specs.Nodes.{family, IsNumber, IsSoundStore, Draws};
+ghost use Rattle.zdd_nodes.specs.Nodes.{family, IsFamilyNumber, IsSoundStore, Draws};
 ghost use Rattle.mode_diagrams.specs.Kept.{AreCopied};
 
 use ar_base::Memory;
@@ -19,7 +19,7 @@ pub fn copied(
     root: NodeId,
 ) -> Result<NodeId, NodeFault>
     requires sound { IsSoundStore source.now }
-    requires root_in { IsNumber source.now root.n }
+    requires root_in { IsFamilyNumber source.now root.n }
     ensures drawn { Draws (IsCounted (family source.now root.n)) (family source.now root.n) ops.old
         ops.new result }
 {
@@ -43,7 +43,7 @@ fn copy(
     number: NodeId,
 ) -> Result<NodeId, NodeFault>
     requires sound { IsSoundStore source.now }
-    requires number_in { IsNumber source.now number.n }
+    requires number_in { IsFamilyNumber source.now number.n }
     requires copied { AreCopied source.now ops.old copies.old }
     ensures copied { AreCopied source.now ops.new copies.new }
     ensures drawn { Draws (IsCounted (family source.now number.n)) (family source.now number.n)

@@ -3,9 +3,9 @@
 ghost use Rattle.std.specs.Prelude.{◌≡◌, ◌≤◌, IfOk, [], length};
 ghost use Rattle.std.specs.List.{All};
 ghost use Rattle.diagram_steps.specs.Trees.{edges_of};
-ghost use Rattle.mode_nodes.specs.Diagrams.{IsSoundStore};
+ghost use Rattle.mode_nodes.specs.Diagrams.{IsSoundDiagramStore};
 ghost use Rattle.mode_nodes.specs.Bounds.{costs_of};
-ghost use Rattle.mode_diagrams.specs.Trees.{AreNumbered, AreApart, IsNumbered};
+ghost use Rattle.mode_diagrams.specs.Trees.{AreNumbered, AreApart, IsNumberedTree};
 ghost use Rattle.mode_diagrams.specs.Numbers.{HasFewEdges};
 ghost use Rattle.mode_diagrams.specs.Costs.{HasDifferentEvents, HaveDifferentEvents, AreModeCosts, AreCostsOf, IsEnoughFor};
 
@@ -30,7 +30,7 @@ pub fn diagrams_up_to(
     ensures enough { IfOk result (λ d. IsEnoughFor order trees.now d) }
     ensures empty { IfOk result (λ d. d.store.nodes ≡ []) }
     ensures limit { IfOk result (λ d. d.store.limit ≡ limit) }
-    ensures sound { IfOk result (λ d. IsSoundStore d.store) }
+    ensures sound { IfOk result (λ d. IsSoundDiagramStore d.store) }
 {
     match order {
         None => Ok(Diagrams::new(alloc, limit, Vec::new(alloc), 0)),
@@ -57,7 +57,7 @@ fn costs(alloc: Global, trees: &[NumberedTree]) -> Result<Vec<Vec<u32>>, Memory>
 
 // What each mode of a tree costs.
 fn tree_costs(alloc: Global, tree: &NumberedTree) -> Result<Vec<u32>, Memory>
-    requires numbered { IsNumbered tree.now }
+    requires numbered { IsNumberedTree tree.now }
     requires different { HasDifferentEvents tree.now }
     requires few { length (edges_of tree.now) ≤ 64 }
     ensures { IfOk result

@@ -4,10 +4,10 @@ ghost use Rattle.std.specs.Prelude.{◌≡◌, ◌⊎◌, ◌≤◌, IfOk, lengt
 ghost use Rattle.eq_core.specs.Ordered.{AreOrdered};
 ghost use Rattle.eq_core.specs.ValuesInside.{IsBelow};
 ghost use Rattle.eq_core.specs.Views.{gate_of, operand_of};
-ghost use Rattle.mode_nodes.specs.Diagrams.{IsNumber};
+ghost use Rattle.mode_nodes.specs.Diagrams.{IsDiagramNumber};
 ghost use Rattle.mode_nodes.specs.Bounds.{GrowsWithin};
 ghost use Rattle.mode_diagrams.specs.Trees.{AreNumbered, AreApart};
-ghost use Rattle.mode_diagrams.specs.Agreement.{Agrees, AreClosed};
+ghost use Rattle.mode_diagrams.specs.Agreement.{HasOperandValues, AreClosedMarks};
 ghost use Rattle.mode_diagrams.specs.Lacking.{IsFull, LacksSome};
 ghost use Rattle.mode_diagrams.specs.Sets.{AreSmall};
 
@@ -91,10 +91,10 @@ pub fn draw(
     requires small { AreSmall trees.now }
     requires ordered { AreOrdered (map gate_of gates.now) }
     requires root_in { IsBelow (length gates.now) (operand_of root) }
-    requires closed { AreClosed (map gate_of gates.now) (operand_of root) marks.now }
+    requires closed { AreClosedMarks (map gate_of gates.now) (operand_of root) marks.now }
     ensures grows { GrowsWithin store.old store.new }
-    ensures number { IfOk result (λ n. IsNumber store.new.store n.n) }
-    ensures agrees { IfOk result (λ n. Agrees trees.now (map gate_of gates.now) (operand_of root)
+    ensures number { IfOk result (λ n. IsDiagramNumber store.new.store n.n) }
+    ensures agrees { IfOk result (λ n. HasOperandValues trees.now (map gate_of gates.now) (operand_of root)
         store.new n.n) }
     ensures beyond { result ≡ Err Undrawn.Beyond → IsFull store.new.store
         ⊎ LacksSome trees.now (map gate_of gates.now) (operand_of root) marks.now }

@@ -3,9 +3,9 @@
 ghost use Rattle.std.specs.Prelude.{◌≡◌, ◌⊎◌, ◌≤◌, ◌<◌, List, IfOk, OnOk, length, true};
 ghost use Rattle.eq_core.specs.Gates.{Gate, EventIs};
 ghost use Rattle.mode_nodes.specs.Bounds.{GrowsWithin};
-ghost use Rattle.mode_diagrams.specs.Trees.{AreNumbered, AreApart, IsNumbered};
-ghost use Rattle.mode_diagrams.specs.Agreement.{Agrees, AreTold};
-ghost use Rattle.mode_diagrams.specs.Lacking.{ArePlaced, Puts, HasNoTree, IsFull};
+ghost use Rattle.mode_diagrams.specs.Trees.{AreNumbered, AreApart, IsNumberedTree};
+ghost use Rattle.mode_diagrams.specs.Agreement.{HasOperandValues, AreToldModes};
+ghost use Rattle.mode_diagrams.specs.Lacking.{HavePlacedEvents, PutsTree, HasNoTree, IsFull};
 ghost use Rattle.mode_diagrams.specs.Sets.{AreSmall};
 
 use crate::drawing::Undrawn;
@@ -21,7 +21,7 @@ pub(crate) type TreePlaces = HashMap<EventId, u32>;
 /// The places of the trees of all events.
 pub(crate) fn places(alloc: Global, trees: &[NumberedTree]) -> Result<TreePlaces, Memory>
     requires { length trees.now ≤ 4294967295 }
-    ensures { IfOk result (λ places. ArePlaced trees.now (length trees.now) places) }
+    ensures { IfOk result (λ places. HavePlacedEvents trees.now (length trees.now) places) }
 {
     let mut places = HashMap::new(alloc);
     for (place, tree) in trees.iter().enumerate() {
@@ -32,7 +32,7 @@ pub(crate) fn places(alloc: Global, trees: &[NumberedTree]) -> Result<TreePlaces
 
 // Puts the place for the events of these edges.
 fn put_all(places: &mut TreePlaces, edges: &[NumberedEdge], place: u32) -> Result<(), Memory>
-    ensures { OnOk result (Puts edges.now place places.old places.new) }
+    ensures { OnOk result (PutsTree edges.now place places.old places.new) }
 {
     for edge in edges {
         places.insert(edge.event, place)?;
@@ -42,8 +42,8 @@ fn put_all(places: &mut TreePlaces, edges: &[NumberedEdge], place: u32) -> Resul
 
 // For each mode of the tree 1 where the event is on the path to it, else 0: what an edge enters has that of what it leaves.
 fn told(alloc: Global, tree: &NumberedTree, event: EventId) -> Result<Vec<DiagramId>, Memory>
-    requires { IsNumbered tree.now }
-    ensures { IfOk result (λ ns. AreTold tree.now event.n ns.items) }
+    requires { IsNumberedTree tree.now }
+    ensures { IfOk result (λ ns. AreToldModes tree.now event.n ns.items) }
 {
     let mut told = Vec::new(alloc);
     told.push(DiagramId::new(0))?;
@@ -69,10 +69,10 @@ pub(crate) fn event_diagram(
     requires numbered { AreNumbered trees.now }
     requires apart { AreApart trees.now }
     requires small { AreSmall trees.now }
-    requires placed { ArePlaced trees.now (length trees.now) places.now }
+    requires placed { HavePlacedEvents trees.now (length trees.now) places.now }
     ensures grows { GrowsWithin store.old store.new }
     ensures agrees { IfOk result (λ n. (gates : List Gate)
-        → Agrees trees.now gates (EventIs event.n true) store.new n.n) }
+        → HasOperandValues trees.now gates (EventIs event.n true) store.new n.n) }
     ensures beyond { result ≡ Err Undrawn.Beyond
         → IsFull store.new.store ⊎ HasNoTree trees.now event.n }
     ensures known { IfOk result (λ _. HasNoTree trees.now event.n → ⊥) }

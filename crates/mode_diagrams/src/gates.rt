@@ -5,12 +5,12 @@ ghost use Rattle.eq_core.specs.Gates.{Gate as GateOf};
 ghost use Rattle.eq_core.specs.Ordered.{AreBelow};
 ghost use Rattle.eq_core.specs.ValuesInside.{IsBelow};
 ghost use Rattle.eq_core.specs.Views.{all_needed, gate_of, operand_of};
-ghost use Rattle.mode_nodes.specs.Diagrams.{IsNumber};
+ghost use Rattle.mode_nodes.specs.Diagrams.{IsDiagramNumber};
 ghost use Rattle.mode_nodes.specs.Bounds.{GrowsWithin};
 ghost use Rattle.diagram_steps.specs.Joints.{AreTabled};
 ghost use Rattle.mode_diagrams.specs.Trees.{AreNumbered, AreApart};
-ghost use Rattle.mode_diagrams.specs.Agreement.{Agrees, AgreesJoint, IsReady, AreReady};
-ghost use Rattle.mode_diagrams.specs.Lacking.{ArePlaced, IsFull, Lacks, LacksOne};
+ghost use Rattle.mode_diagrams.specs.Agreement.{HasOperandValues, AgreesJoint, IsOperandReady, AreReady};
+ghost use Rattle.mode_diagrams.specs.Lacking.{HavePlacedEvents, IsFull, Lacks, LacksOne};
 ghost use Rattle.mode_diagrams.specs.Sets.{AreSmall};
 
 use crate::drawing::Undrawn;
@@ -32,14 +32,14 @@ pub(crate) fn operand_diagram(
     requires numbered { AreNumbered trees.now }
     requires apart { AreApart trees.now }
     requires small { AreSmall trees.now }
-    requires placed { ArePlaced trees.now (length trees.now) places.now }
+    requires placed { HavePlacedEvents trees.now (length trees.now) places.now }
     requires table { AreTabled table.now store.old.store }
     requires below { IsBelow (length table.now) (operand_of operand) }
     ensures grows { GrowsWithin store.old store.new }
-    ensures number { IfOk result (λ n. IsNumber store.new.store n.n) }
+    ensures number { IfOk result (λ n. IsDiagramNumber store.new.store n.n) }
     ensures agrees { IfOk result (λ n. (gates : List GateOf)
-        → IsReady trees.now gates table.now store.old (operand_of operand)
-        → Agrees trees.now gates (operand_of operand) store.new n.n) }
+        → IsOperandReady trees.now gates table.now store.old (operand_of operand)
+        → HasOperandValues trees.now gates (operand_of operand) store.new n.n) }
     ensures beyond { result ≡ Err Undrawn.Beyond
         → IsFull store.new.store ⊎ Lacks trees.now (operand_of operand) }
     ensures known { IfOk result (λ _. Lacks trees.now (operand_of operand) → ⊥) }
@@ -71,11 +71,11 @@ pub(crate) fn gate_diagram(
     requires numbered { AreNumbered trees.now }
     requires apart { AreApart trees.now }
     requires small { AreSmall trees.now }
-    requires placed { ArePlaced trees.now (length trees.now) places.now }
+    requires placed { HavePlacedEvents trees.now (length trees.now) places.now }
     requires table { AreTabled table.now store.old.store }
     requires below { AreBelow (length table.now) (map operand_of gate.now.operands.items) }
     ensures grows { GrowsWithin store.old store.new }
-    ensures number { IfOk result (λ n. IsNumber store.new.store n.n) }
+    ensures number { IfOk result (λ n. IsDiagramNumber store.new.store n.n) }
     ensures agrees { IfOk result (λ n. marked ≡ true → (gates : List GateOf)
         → AreReady trees.now gates table.now store.old (map operand_of gate.now.operands.items)
         → AgreesJoint trees.now gates (all_needed gate.now.joint)

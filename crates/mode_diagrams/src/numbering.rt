@@ -4,7 +4,7 @@ ghost use Rattle.std.specs.Prelude.{◌≡◌, ◌≤◌, IfOk, IfNone, IfSome, 
 ghost use Rattle.std.specs.List.{All};
 ghost use Rattle.ar_firing.specs.Trees.{IsTree, AreTrees};
 ghost use Rattle.mode_trees.specs.Views.{tree_of};
-ghost use Rattle.mode_diagrams.specs.Numbers.{AreNumbersOf, HasFewEdges, HasWideTree, IsWide, IsNumberOf, IsModeNumber, IsEnteredBefore};
+ghost use Rattle.mode_diagrams.specs.Numbers.{AreNumberedTrees, HasFewEdges, HasWideTree, IsWideTree, IsNumberOf, IsModeNumber, IsEnteredBefore};
 
 use ar_base::Memory;
 use diagram_steps::{NumberedEdge, NumberedTree};
@@ -19,7 +19,7 @@ const MOST_EDGES: usize = 64;
 pub fn numbered(alloc: Global, trees: &[ModeTree]) -> Result<Option<Vec<NumberedTree>>, Memory>
     requires trees { AreTrees (map (tree_of (λ n. n)) trees.now) }
     ensures numbers { IfOk result (λ made. IfSome made
-        (λ ns. AreNumbersOf (map (tree_of (λ n. n)) trees.now) ns.items)) }
+        (λ ns. AreNumberedTrees (map (tree_of (λ n. n)) trees.now) ns.items)) }
     ensures few { IfOk result (λ made. IfSome made (λ ns. All HasFewEdges ns.items)) }
     ensures none { IfOk result (λ made. IfNone made
         (HasWideTree (map (tree_of (λ n. n)) trees.now))) }
@@ -44,7 +44,7 @@ fn numbered_tree(alloc: Global, tree: &ModeTree) -> Result<Option<NumberedTree>,
     ensures number { IfOk result (λ made. IfSome made
         (λ n. IsNumberOf (tree_of (λ n. n) tree.now) n)) }
     ensures few { IfOk result (λ made. IfSome made (λ n. HasFewEdges n)) }
-    ensures none { IfOk result (λ made. IfNone made (IsWide (tree_of (λ n. n) tree.now))) }
+    ensures none { IfOk result (λ made. IfNone made (IsWideTree (tree_of (λ n. n) tree.now))) }
 {
     if tree.edges.len() > MOST_EDGES {
         return Ok(None);

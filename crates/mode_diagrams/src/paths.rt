@@ -1,11 +1,11 @@
 //! The events of a path in front of the sets of a family.
 
 ghost use Rattle.std.specs.Prelude.{◌≤◌, IfOk, length};
-ghost use Rattle.zdd_nodes.specs.Nodes.{family, IsNumber};
+ghost use Rattle.zdd_nodes.specs.Nodes.{family, IsFamilyNumber};
 ghost use Rattle.diagram_steps.specs.Trees.{edges_of};
 ghost use Rattle.diagram_steps.specs.Putting.{Extends};
-ghost use Rattle.mode_diagrams.specs.Trees.{IsNumbered};
-ghost use Rattle.mode_diagrams.specs.Sets.{HasPath};
+ghost use Rattle.mode_diagrams.specs.Trees.{IsNumberedTree};
+ghost use Rattle.mode_diagrams.specs.Sets.{HasPathEvents};
 
 use diagram_steps::{NumberedTree, with_event};
 use zdd_nodes::{NodeFault, NodeId};
@@ -18,12 +18,12 @@ pub(crate) fn with_path(
     mode: u32,
     sets: NodeId,
 ) -> Result<NodeId, NodeFault>
-    requires numbered { IsNumbered tree.now }
+    requires numbered { IsNumberedTree tree.now }
     requires mode { mode ≤ length (edges_of tree.now) }
-    requires sets_in { IsNumber ops.old sets.n }
+    requires sets_in { IsFamilyNumber ops.old sets.n }
     ensures grows { Extends ops.old ops.new }
-    ensures in_store { IfOk result (λ n. IsNumber ops.new n.n) }
-    ensures sets { IfOk result (λ n. HasPath (edges_of tree.now) mode (family ops.old sets.n)
+    ensures in_store { IfOk result (λ n. IsFamilyNumber ops.new n.n) }
+    ensures sets { IfOk result (λ n. HasPathEvents (edges_of tree.now) mode (family ops.old sets.n)
         (family ops.new n.n)) }
 {
     if mode == 0 {

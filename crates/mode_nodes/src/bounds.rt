@@ -1,7 +1,7 @@
 //! Diagrams at the modes that cost no more than there is.
 
 ghost use Rattle.std.specs.Prelude.{◌≡◌, ◌-◌, ◌<◌, ◌≤◌, ◌⊎◌, ◌+◌, MatchOption, OnErr};
-ghost use Rattle.mode_nodes.specs.Diagrams.{test, IsNumber, IsFrom, IsSoundStore};
+ghost use Rattle.mode_nodes.specs.Diagrams.{test, IsDiagramNumber, IsFrom, IsSoundDiagramStore};
 ghost use Rattle.mode_nodes.specs.Bounds.{costs_of, cost, IsTrimmed, IsCutWithin, DrawsWithin};
 
 use crate::cut::{Cut, cut_at, taken};
@@ -35,7 +35,7 @@ fn next_trimmed(
     most: u32,
     diagram: DiagramId,
 ) -> Option<DiagramId>
-    requires { IsNumber store.now diagram.n }
+    requires { IsDiagramNumber store.now diagram.n }
     ensures step { MatchOption result Unit
         (λ r. IsTrimmed (costs_of costs.now) most store.now diagram.n r.n) }
     ensures less { MatchOption result Unit (λ r. r.n < diagram.n) }
@@ -49,7 +49,7 @@ fn next_trimmed(
 
 /// What is left of a diagram where it does not ask first for a mode that costs too much.
 fn trimmed(store: &Store, costs: &[Vec<u32>], most: u32, diagram: DiagramId) -> DiagramId
-    requires { IsNumber store.now diagram.n }
+    requires { IsDiagramNumber store.now diagram.n }
     ensures { IsTrimmed (costs_of costs.now) most store.now diagram.n result.n }
 {
     let mut left = diagram;
@@ -62,8 +62,8 @@ fn trimmed(store: &Store, costs: &[Vec<u32>], most: u32, diagram: DiagramId) -> 
 /// Cuts two diagrams, of which one at least is a node, at the first place that they ask for; what is left asks first for no
 /// mode that costs too much.
 pub fn cut_within(store: &Store, costs: &[Vec<u32>], most: u32, f: DiagramId, g: DiagramId) -> Cut
-    requires f_in { IsNumber store.now f.n }
-    requires g_in { IsNumber store.now g.n }
+    requires f_in { IsDiagramNumber store.now f.n }
+    requires g_in { IsDiagramNumber store.now g.n }
     requires some { (2 ≤ f.n) ⊎ (2 ≤ g.n) }
     ensures cut { IsCutWithin (costs_of costs.now) most store.now f.n g.n result }
 {
@@ -94,15 +94,15 @@ pub fn test_within(
     lo: DiagramId,
     hi: DiagramId,
 ) -> Result<DiagramId, DiagramFault>
-    requires lo_in { IsNumber store.old lo.n }
-    requires hi_in { IsNumber store.old hi.n }
+    requires lo_in { IsDiagramNumber store.old lo.n }
+    requires hi_in { IsDiagramNumber store.old hi.n }
     requires lo_from { IsFrom store.old.nodes tree lo.n }
     requires hi_from { IsFrom store.old.nodes (tree + 1) hi.n }
-    requires sound { IsSoundStore store.old }
+    requires sound { IsSoundDiagramStore store.old }
     ensures drawn { DrawsWithin (costs_of costs.now) most (test store.old tree mode lo.n hi.n)
         (λ t. t ≤ tree) store.old store.new result }
     ensures err { OnErr result (store.new ≡ store.old) }
-    ensures sound { IsSoundStore store.new }
+    ensures sound { IsSoundDiagramStore store.new }
 {
     let left = left_of(costs, most, tree, mode);
     let rest = taken(store, lo, tree, mode);

@@ -5,7 +5,7 @@ use Rattle.ar_base.specs.declared.faults.Memory.{Memory}
 use Rattle.ar_base.specs.Numbers.{VarId}
 use Rattle.domains.specs.declared.Value.{Value}
 use Rattle.typed_expr.specs.Possible.{IsWide}
-use Rattle.typed_expr.specs.PairsInside.{turned}
+use Rattle.typed_expr.specs.PairsInside.{turned_pairs}
 use Rattle.typed_expr.specs.Rows.{Rows}
 use Rattle.typed_expr.proofs.Renaming.{renames_turned}
 use Rattle.typed_expr.specs.declared.expr.Expr.{Expr, out-Expr}
@@ -15,7 +15,7 @@ use Rattle.ar_firing.proofs.Widths.{wide_there}
 use Rattle.gts_core.specs.View.{net_of, numbered}
 use Rattle.gts_core.proofs.Numbering.{IsNumber, renames_numbered}
 use Rattle.gts_core.specs.declared.system.GtsParts.{GtsParts}
-use Rattle.gts_core.specs.Rows.{AreDomains, RowFacts, Says}
+use Rattle.gts_core.specs.Rows.{AreDomains, RowFacts, TestSays}
 use Rattle.gts_core.proofs.Allowing.{there, back}
 
 module _ (p : GtsParts) (rows : Rows) (a : AreDomains p (length p.variables.items) rows) where
@@ -26,7 +26,7 @@ module _ (p : GtsParts) (rows : Rows) (a : AreDomains p (length p.variables.item
 
   wide_off : (e : Expr VarId) → IsWide (Allows (net_of p)) 64 (out-Expr ℕ (numbered e))
       → IsWide (RowFacts rows) 64 (out-Expr VarId e)
-  wide_off e h = wide_there (turned IsNumber) (Allows (net_of p)) (RowFacts rows)
+  wide_off e h = wide_there (turned_pairs IsNumber) (Allows (net_of p)) (RowFacts rows)
       (λ n x v i c. back p rows a x.n v (subst (λ (k : ℕ). Allows (net_of p) k v) (sym i) c))
       (renames_turned IsNumber (renames_numbered e)) h
 
@@ -51,6 +51,6 @@ module _ (p : GtsParts) (rows : Rows) (a : AreDomains p (length p.variables.item
 -- what a success says, in another form
 pub says_as : (rows : Rows) (P Q : GtsParts → Type 0) (r : Result Bool Memory)
     → ((p : GtsParts) → AreDomains p (length p.variables.items) rows → (b : Bool) → IsAnswer b (P p) → IsAnswer b (Q p))
-    → IfOk r (Says rows P) → IfOk r (Says rows Q)
+    → IfOk r (TestSays rows P) → IfOk r (TestSays rows Q)
 says_as rows P Q (Ok b) f h = λ p a. f p a b (h p a)
 says_as rows P Q (Err e) f h = tt

@@ -13,7 +13,7 @@ use Rattle.ar_firing.specs.Rules.{AssignIsWide, by_value, by_condition}
 use Rattle.gts_core.specs.View.{net_of, numbered, condition_of, assign_of}
 use Rattle.gts_core.specs.declared.system.Assign.{Assign}
 use Rattle.gts_core.specs.declared.system.GtsParts.{GtsParts}
-use Rattle.mode_search.specs.Events.{IsLeast}
+use Rattle.mode_search.specs.Events.{IsLeastNumber}
 use Rattle.mode_search.specs.Wide.{IsSomeWide, IsWideFlow, IsWideObserver, IsFirstWide}
 use Rattle.ar_base.specs.Least.{least_with}
 use Rattle.mode_search.specs.declared.searches.Wide.TheVariants as wide
@@ -44,15 +44,15 @@ assign_wide p a false n h = λ w. elim (parts_of p (assign_of a) w) [
 ]
 
 module _ (p : GtsParts) where
-  pub flows_start : IsLeast (IsWideFlow p 0) None
+  pub flows_start : IsLeastNumber (IsWideFlow p 0) None
   flows_start = λ n q. omega (arith, q.below)
 
   -- one assignment more
   pub flows_more : (i : ℕ) (a : Assign) (b : Bool) (least found : Option ℕ) → Stands p.assigns.items i a
-      → IsLeast (IsWideFlow p i) least → IsAnswer b (AssignIsWide (net_of p) (assign_of a))
-      → found ≡ least_with least b a.target.n → IsLeast (IsWideFlow p (i + 1)) found
+      → IsLeastNumber (IsWideFlow p i) least → IsAnswer b (AssignIsWide (net_of p) (assign_of a))
+      → found ≡ least_with least b a.target.n → IsLeastNumber (IsWideFlow p (i + 1)) found
   flows_more i a b least found st h answer e =
-      subst (λ (z : Option ℕ). IsLeast (IsWideFlow p (i + 1)) z) (sym e) (by least b h answer)
+      subst (λ (z : Option ℕ). IsLeastNumber (IsWideFlow p (i + 1)) z) (sym e) (by least b h answer)
     where
       grow : (n : ℕ) → IsWideFlow p i n → IsWideFlow p (i + 1) n
       grow n q = record {
@@ -86,15 +86,15 @@ module _ (p : GtsParts) where
             ))
       ]
 
-      by : (least : Option ℕ) (b : Bool) → IsLeast (IsWideFlow p i) least
+      by : (least : Option ℕ) (b : Bool) → IsLeastNumber (IsWideFlow p i) least
           → IsAnswer b (AssignIsWide (net_of p) (assign_of a))
-          → IsLeast (IsWideFlow p (i + 1)) (least_with least b a.target.n)
+          → IsLeastNumber (IsWideFlow p (i + 1)) (least_with least b a.target.n)
       by None false h n = λ k q. elim (split k q) [ inl o ↦ h k o | inr o ↦ n o.1 ]
       by (Some m) false h n = (grow m h.0, λ k q. elim (split k q) [ inl o ↦ h.1 k o | inr o ↦ absurd (n o.1) ])
       by None true h w = (this w, λ k q. elim (split k q) [ inl o ↦ absurd (h k o) | inr o ↦ (let u = o.0 in omega arith) ])
       by (Some m) true h w = test (nat_lt a.target.n m) cc
         where
-          test : (c : Bool) → nat_lt a.target.n m ≡ c → IsLeast (IsWideFlow p (i + 1)) (Some (cond c a.target.n m))
+          test : (c : Bool) → nat_lt a.target.n m ≡ c → IsLeastNumber (IsWideFlow p (i + 1)) (Some (cond c a.target.n m))
           test true t = (this w, λ k q. elim (split k q) [ inl o ↦ (let u = h.1 k o in let v = low a.target.n m t in omega arith) | inr o ↦ (let u = o.0 in omega arith) ])
           test false t = (grow m h.0, λ k q. elim (split k q) [ inl o ↦ h.1 k o | inr o ↦ (let u = o.0 in let v = ltb-false a.target.n m t in omega arith) ])
 
@@ -109,14 +109,14 @@ module _ (p : GtsParts) where
     wide = q.wide;
   }
 
-  pub flow_found : (n : ℕ) → IsLeast (IsWideFlow p (length p.assigns.items)) (Some n)
+  pub flow_found : (n : ℕ) → IsLeastNumber (IsWideFlow p (length p.assigns.items)) (Some n)
       → IsFirstWide p (Some (wide.Flow n))
   flow_found n h = ((length p.assigns.items, h.0), λ count k q. h.1 k (all_below count k q))
 
-  pub observer_found : (n : ℕ) → IsLeast (IsWideFlow p (length p.assigns.items)) None
-      → IsLeast (IsWideObserver p) (Some n) → IsFirstWide p (Some (wide.Observer n))
+  pub observer_found : (n : ℕ) → IsLeastNumber (IsWideFlow p (length p.assigns.items)) None
+      → IsLeastNumber (IsWideObserver p) (Some n) → IsFirstWide p (Some (wide.Observer n))
   observer_found n h o = (λ count k q. h k (all_below count k q), o.0, o.1)
 
-  pub none_found : IsLeast (IsWideFlow p (length p.assigns.items)) None → IsLeast (IsWideObserver p) None
+  pub none_found : IsLeastNumber (IsWideFlow p (length p.assigns.items)) None → IsLeastNumber (IsWideObserver p) None
       → IsFirstWide p None
   none_found h o = (λ count n q. h n (all_below count n q), o)

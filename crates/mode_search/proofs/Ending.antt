@@ -17,7 +17,7 @@ use Rattle.gts_core.specs.declared.system.WayBody.TheVariants.{Local}
 use Rattle.gts_core.specs.declared.system.Assign.{Assign}
 use Rattle.gts_core.specs.declared.system.GtsParts.{GtsParts}
 use Rattle.mode_search.specs.Modes.{transition_of}
-use Rattle.mode_search.specs.Moves.{IsStep, IsMove}
+use Rattle.mode_search.specs.Moves.{IsModeStep, IsMove}
 use Rattle.mode_search.specs.declared.moves.Move.{Move}
 use Rattle.mode_search.specs.declared.moves.Move.TheVariants.{Still, To, Wrong}
 use Rattle.mode_search.specs.Kept.{IsLocal}
@@ -66,7 +66,7 @@ module _ (p : GtsParts) (n : ℕ) (domain : List Value) (way : ℕ) (from : Valu
   one_to : (v w : Value) → Leads p n domain way from (To v) → Leads p n domain way from (To w) → w ≡ v
   one_to v w x y =
       let e = same_transition p way y.guard x.guard y.action x.action y.local x.local in
-      let k = subst (λ (z : Transition ℕ). IsStep (At n from) z n domain w) e y.is in
+      let k = subst (λ (z : Transition ℕ). IsModeStep (At n from) z n domain w) e y.is in
       x.is.one w k.gives
 
   not_other : {effects : Value → Type 0} (v : Value) → effects v → ((w : Value) → effects w → w ≡ v) → Contains domain v
@@ -78,7 +78,7 @@ module _ (p : GtsParts) (n : ℕ) (domain : List Value) (way : ℕ) (from : Valu
   to_not_wrong : (v : Value) → Leads p n domain way from (To v) → Leads p n domain way from Wrong → ⊥
   to_not_wrong v x y =
       let e = same_transition p way x.guard y.guard x.action y.action x.local y.local in
-      let k = subst (λ (z : Transition ℕ). IsStep (At n from) z n domain v) e x.is in
+      let k = subst (λ (z : Transition ℕ). IsModeStep (At n from) z n domain v) e x.is in
       not_other v k.gives k.one k.in_domain y.is.gives
 
 edge_is : (e : Edge) (event : EventId) (way : WayId) (to : Value) → e.event ≡ event → e.way ≡ way → to ≡ e.to

@@ -18,7 +18,7 @@ use Rattle.gts_core.specs.View.{numbered, condition_of, assign_of}
 use Rattle.gts_core.proofs.Numbering.{yields_numbered, yields_back}
 use Rattle.gts_core.specs.declared.system.Assign.{Assign}
 use Rattle.gts_core.specs.Adding.{Adds}
-use Rattle.mode_search.specs.Moves.{values_at, HasAt, GivesValue}
+use Rattle.mode_search.specs.Moves.{lone_values_at, HasAt, GivesValue}
 use Rattle.gts_core.proofs.Added.{adds_none, adds_these}
 
 itself : (n : ℕ) → nat_eq n n ≡ true
@@ -40,11 +40,11 @@ at_back x m n v h = subst (λ (k : ℕ). HasAt x (m ∷ []) k v) (sym h.key)
 module _ (x : ℕ) (values : List Value) where
   -- the set of what the expression yields is that of its form over plain numbers
   pub tells : (e : Expr VarId) (set : List Value)
-      → HasExactly set (Yields (facts_of (values_at x values)) (out-Expr VarId e))
+      → HasExactly set (Yields (facts_of (lone_values_at x values)) (out-Expr VarId e))
       → HasExactly set (Yields (HasAt x values) (out-Expr ℕ (numbered e)))
   tells e set h = record {
-    sound = λ v c. yields_numbered (facts_of (values_at x values)) (HasAt x values) e v (λ y w f. f) (h.sound v c);
-    complete = λ v y. h.complete v (yields_back (facts_of (values_at x values)) (HasAt x values) e v (λ y w f. f) y);
+    sound = λ v c. yields_numbered (facts_of (lone_values_at x values)) (HasAt x values) e v (λ y w f. f) (h.sound v c);
+    complete = λ v y. h.complete v (yields_back (facts_of (lone_values_at x values)) (HasAt x values) e v (λ y w f. f) y);
   }
 
   -- the conditions from a place on decide

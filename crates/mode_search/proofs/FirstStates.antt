@@ -12,7 +12,7 @@ use Rattle.gts_core.specs.View.{net_of, variable_of}
 use Rattle.gts_core.proofs.Viewing.{variable_there, variable_back}
 use Rattle.gts_core.specs.declared.system.Variable.{Variable}
 use Rattle.gts_core.specs.declared.system.GtsParts.{GtsParts}
-use Rattle.mode_search.specs.Modes.{IsStateAt, number_in}
+use Rattle.mode_search.specs.Modes.{IsStateAt, plain_number}
 use Rattle.mode_search.specs.Events.{IsFirstBelow, AreFirstStates, first_with}
 use Rattle.mode_search.proofs.Reading.{stands_set_other, stands_set_same}
 
@@ -24,7 +24,7 @@ module _ (p : GtsParts) where
       record { variable = r.0; stands = r.1; is_state = g.is_state; is_unit = g.is_unit }
 
   pub first_there : (unit : ℕ) (found : Option VarId) → IsFirstBelow p (length p.variables.items) unit found
-      → IsFirstOrNone (net_of p).variables (IsStateOf unit) (number_in found)
+      → IsFirstOrNone (net_of p).variables (IsStateOf unit) (plain_number found)
   first_there unit None h = record { has_not = λ k a st q. let b = state_back unit k a st q in h k (stands_within p.variables.items k b.variable b.stands) b }
   first_there unit (Some x) h = record {
     item = variable_of x.n h.1.variable;

@@ -19,19 +19,19 @@ use Rattle.gts_core.specs.declared.system.Assign.{Assign}
 use Rattle.gts_core.specs.declared.system.GtsParts.{GtsParts}
 use Rattle.gts_core.specs.Adding.{HasThose}
 use Rattle.mode_search.specs.Named.{OneNames}
-use Rattle.mode_search.specs.Modes.{IsStateAt, IsNamedState, IsLeast, lesser_of, IsAlone, NamesAlone, number_in, transition_of}
+use Rattle.mode_search.specs.Modes.{IsStateAt, IsNamedState, IsLeastVariable, lesser_of, IsAlone, NamesAlone, plain_number, transition_of}
 use Rattle.mode_search.proofs.Added.{taken_cases, taken_here, taken_more}
 use Rattle.mode_search.proofs.NamesNumbered.{guard_there, guard_back, action_there, action_back}
 
 module _ (P Q R : ℕ → Type 0) (split : (n : ℕ) → R n → P n ⊎ Q n) (left : (n : ℕ) → P n → R n)
     (right : (n : ℕ) → Q n → R n) where
-  pub lesser_is : (a b : Option VarId) → IsLeast P a → IsLeast Q b → IsLeast R (lesser_of a b)
+  pub lesser_is : (a b : Option VarId) → IsLeastVariable P a → IsLeastVariable Q b → IsLeastVariable R (lesser_of a b)
   lesser_is None None h k = λ n q. elim (split n q) [ inl p ↦ h n p | inr p ↦ k n p ]
   lesser_is None (Some y) h k = (right y.n k.0, λ n q. elim (split n q) [ inl p ↦ absurd (h n p) | inr p ↦ k.1 n p ])
   lesser_is (Some x) None h k = (left x.n h.0, λ n q. elim (split n q) [ inl p ↦ h.1 n p | inr p ↦ absurd (k n p) ])
   lesser_is (Some x) (Some y) h k = by (nat_lt y.n x.n) cc
     where
-      by : (c : Bool) → nat_lt y.n x.n ≡ c → IsLeast R (cond c (Some y) (Some x))
+      by : (c : Bool) → nat_lt y.n x.n ≡ c → IsLeastVariable R (cond c (Some y) (Some x))
       by true e = (right y.n k.0, λ n q. elim (split n q) [ inl p ↦ (let u = h.1 n p in let v = low y.n x.n e in omega arith) | inr p ↦ k.1 n p ])
       by false e = (left x.n h.0, λ n q. elim (split n q) [ inl p ↦ h.1 n p | inr p ↦ (let u = k.1 n p in let v = ltb-false y.n x.n e in omega arith) ])
 
@@ -43,20 +43,20 @@ module _ (p : GtsParts) (unit : ℕ) where
 
   this_is : (name : VarId) (found : Option VarId)
       → MatchOption found (IsStateAt p unit name.n → ⊥) (λ x. (x ≡ name) × IsStateAt p unit name.n)
-      → IsLeast (IsThis name) found
+      → IsLeastVariable (IsThis name) found
   this_is name None h = λ n q. h (subst (IsStateAt p unit) (sym q.number) q.is_state)
   this_is name (Some x) h =
       let e : x.n ≡ name.n = ap (λ (z : VarId). z.n) h.0 in
       (record { number = sym e; is_state = subst (IsStateAt p unit) (sym e) h.1 }, λ n q. let u = q.number in omega arith)
 
-  pub least_start : (names : List VarId) → IsLeast (IsNamedState p unit (take 0 names)) None
+  pub least_start : (names : List VarId) → IsLeastVariable (IsNamedState p unit (take 0 names)) None
   least_start names = λ n q. one_none q.variable q.is_one
 
   pub least_more : (names : List VarId) (i : ℕ) (name : VarId) (least found : Option VarId) → i < length names
       → name ≡ get_or names i name
-      → IsLeast (IsNamedState p unit (take i names)) least
+      → IsLeastVariable (IsNamedState p unit (take i names)) least
       → MatchOption found (IsStateAt p unit name.n → ⊥) (λ x. (x ≡ name) × IsStateAt p unit name.n)
-      → IsLeast (IsNamedState p unit (take (i + 1) names)) (lesser_of least found)
+      → IsLeastVariable (IsNamedState p unit (take (i + 1) names)) (lesser_of least found)
   least_more names i name least found h is before now =
       lesser_is (IsNamedState p unit (take i names)) (IsThis name) (IsNamedState p unit (take (i + 1) names))
       (λ n q. elim (taken_cases names i name q.variable h is q.is_one) [
@@ -78,8 +78,8 @@ module _ (p : GtsParts) (unit : ℕ) where
       least found before (this_is name found now)
 
   pub least_all : (names : List VarId) (i : ℕ) (least : Option VarId) → length names ≤ i
-      → IsLeast (IsNamedState p unit (take i names)) least → IsLeast (IsNamedState p unit names) least
-  least_all names i least h k = subst (λ (z : List VarId). IsLeast (IsNamedState p unit z) least) (take_all i names h) k
+      → IsLeastVariable (IsNamedState p unit (take i names)) least → IsLeastVariable (IsNamedState p unit names) least
+  least_all names i least h k = subst (λ (z : List VarId). IsLeastVariable (IsNamedState p unit z) least) (take_all i names h) k
 
 -- a transition with the variables that its guard and its action name
 pub record Read (g : Expr VarId) (acts : List Assign) (guards actions : List VarId) : Type 0 where
@@ -93,8 +93,8 @@ module _ (p : GtsParts) (unit : ℕ) (g : Expr VarId) (acts : List Assign) (guar
     pub is_state : IsStateAt p unit n
     pub named : WayNames n (Leaf (transition_of g acts))
 
-  pub named_least : (a b : Option VarId) → IsLeast (IsNamedState p unit guards) a
-      → IsLeast (IsNamedState p unit actions) b → IsLeast IsNamedHere (lesser_of a b)
+  pub named_least : (a b : Option VarId) → IsLeastVariable (IsNamedState p unit guards) a
+      → IsLeastVariable (IsNamedState p unit actions) b → IsLeastVariable IsNamedHere (lesser_of a b)
   named_least = lesser_is (IsNamedState p unit guards) (IsNamedState p unit actions) IsNamedHere split
       (λ n q. record {
         is_state = q.is_state;
@@ -129,7 +129,7 @@ module _ (p : GtsParts) (unit : ℕ) (g : Expr VarId) (acts : List Assign) (guar
         named = k.named;
       }
 
-  pub first_named : (x : VarId) → IsLeast IsNamedHere (Some x)
+  pub first_named : (x : VarId) → IsLeastVariable IsNamedHere (Some x)
       → IsFirst (net_of p).variables (IsNamedStateOf unit (Leaf (transition_of g acts))) x.n
   first_named x h = record {
     item = variable_of x.n h.0.is_state.variable;
@@ -138,13 +138,13 @@ module _ (p : GtsParts) (unit : ℕ) (g : Expr VarId) (acts : List Assign) (guar
     before = λ k a l st q. let u = h.1 k (back k a st q) in absurd (omega arith);
   }
 
-  pub none_named : IsLeast IsNamedHere None
+  pub none_named : IsLeastVariable IsNamedHere None
       → HasNo (net_of p).variables (IsNamedStateOf unit (Leaf (transition_of g acts)))
   none_named h = record { has_not = λ k a st q. h k (back k a st q) }
 
   -- the mode variable is the least that is named, or the first of the unit
-  pub mode_is : (named first : Option VarId) (x : VarId) → IsLeast IsNamedHere named
-      → IsFirstOrNone (net_of p).variables (IsStateOf unit) (number_in first) → option_or named first ≡ Some x
+  pub mode_is : (named first : Option VarId) (x : VarId) → IsLeastVariable IsNamedHere named
+      → IsFirstOrNone (net_of p).variables (IsStateOf unit) (plain_number first) → option_or named first ≡ Some x
       → (system : System ℕ) → system.net ≡ net_of p → IsModeOf system unit (Leaf (transition_of g acts)) x.n
   mode_is None None x h k e system net = cc
   mode_is None (Some y) x h k e system net =
@@ -159,7 +159,7 @@ module _ (p : GtsParts) (unit : ℕ) (g : Expr VarId) (acts : List Assign) (guar
       (sym net) (subst (λ (z : VarId). IsFirst (net_of p).variables
       (IsNamedStateOf unit (Leaf (transition_of g acts))) z.n) i (first_named y h)))
 
-  pub no_mode : (named first : Option VarId) → IsFirstOrNone (net_of p).variables (IsStateOf unit) (number_in first)
+  pub no_mode : (named first : Option VarId) → IsFirstOrNone (net_of p).variables (IsStateOf unit) (plain_number first)
       → option_or named first ≡ None → HasNo (net_of p).variables (IsStateOf unit)
   no_mode None None k e = k
   no_mode None (Some y) k e = cc

@@ -11,28 +11,28 @@ use Rattle.gts_core.specs.declared.system.Event.{Event}
 use Rattle.gts_core.specs.declared.system.Way.{Way}
 use Rattle.gts_core.specs.declared.system.GtsParts.{GtsParts}
 use Rattle.mode_search.proofs.Added.{taken_cases, taken_here, taken_more}
-use Rattle.mode_search.specs.Events.{AreMarks, numbers_of, IsSync, IsJoint, HasJoint, IsJointAt, Moves, AreMoving, StillMoves}
+use Rattle.mode_search.specs.Events.{AreMarks, plain_event_numbers, IsSync, IsJoint, HasJoint, IsJointAt, MovesUnit, AreMoving, StillMoves}
 use Rattle.mode_search.proofs.Reading.{flags_put, answer_as}
 
 -- a number is one of those of events
-one_number : (events : List EventId) (e : EventId) → IsOneOf events e → IsOneOf (numbers_of events) e.n
+one_number : (events : List EventId) (e : EventId) → IsOneOf events e → IsOneOf (plain_event_numbers events) e.n
 one_number events e o = record { place = o.place; stands = stands_map (λ (z : EventId). z.n) events o.place e o.stands }
 
-number_back : (events : List EventId) (n : ℕ) → IsOneOf (numbers_of events) n
+number_back : (events : List EventId) (n : ℕ) → IsOneOf (plain_event_numbers events) n
     → (e : EventId) × IsOneOf events e × (e.n ≡ n)
 number_back events n o = let r = stands_map_back (λ (z : EventId). z.n) events o.place n o.stands in (r.0, record { place = o.place; stands = r.1 }, r.2)
 
 pub marks_more : (count : ℕ) (dropped : List EventId) (i : ℕ) (d : EventId) (marks new : List Bool) → i < length dropped
-    → AreMarks count (numbers_of (take i dropped)) marks
-    → new ≡ set marks (get_or dropped i d).n true → AreMarks count (numbers_of (take (i + 1) dropped)) new
+    → AreMarks count (plain_event_numbers (take i dropped)) marks
+    → new ≡ set marks (get_or dropped i d).n true → AreMarks count (plain_event_numbers (take (i + 1) dropped)) new
 marks_more count dropped i d marks new h a e =
-    subst (λ (z : List Bool). AreMarks count (numbers_of (take (i + 1) dropped)) z) (sym e) (record {
+    subst (λ (z : List Bool). AreMarks count (plain_event_numbers (take (i + 1) dropped)) z) (sym e) (record {
       long = length-set marks event.n true ∙ a.long;
-      mark = flags_put (IsOneOf (numbers_of (take i dropped))) (IsOneOf (numbers_of (take (i + 1) dropped))) marks event.n
+      mark = flags_put (IsOneOf (plain_event_numbers (take i dropped))) (IsOneOf (plain_event_numbers (take (i + 1) dropped))) marks event.n
           true a.mark
-          (λ n u o. let r = number_back (take i dropped) n o in subst (λ (z : ℕ). IsOneOf (numbers_of (take (i + 1) dropped)) z) r.2 (one_number (take (i + 1) dropped) r.0 (taken_more dropped i event r.0 h is r.1)))
+          (λ n u o. let r = number_back (take i dropped) n o in subst (λ (z : ℕ). IsOneOf (plain_event_numbers (take (i + 1) dropped)) z) r.2 (one_number (take (i + 1) dropped) r.0 (taken_more dropped i event r.0 h is r.1)))
           (λ n u o. let r = number_back (take (i + 1) dropped) n o in elim (taken_cases dropped i event r.0 h is r.1) [
-            | inl k ↦ subst (λ (z : ℕ). IsOneOf (numbers_of (take i dropped)) z) r.2 (one_number (take i dropped) r.0 k)
+            | inl k ↦ subst (λ (z : ℕ). IsOneOf (plain_event_numbers (take i dropped)) z) r.2 (one_number (take i dropped) r.0 k)
             | inr k ↦ absurd (u (sym r.2 ∙ ap (λ (z : EventId). z.n) (sym k)))
           ])
           (one_number (take (i + 1) dropped) event (taken_here dropped i event h is));
@@ -69,7 +69,7 @@ module _ (p : GtsParts) where
       → AreMoving p marks (n + 1) (set moving event.unit.n c)
   moving_more marks n event moving moved marked c st sm sk h a = record {
     long = length-set moving event.unit.n c ∙ a.long;
-    moves = flags_put (Moves p marks n) (Moves p marks (n + 1)) moving event.unit.n c a.moves (λ u d q. grow u q)
+    moves = flags_put (MovesUnit p marks n) (MovesUnit p marks (n + 1)) moving event.unit.n c a.moves (λ u d q. grow u q)
         (λ u d q. elim (at_most q.number n q.below) [
           | inl l ↦ record {
             number = q.number;
@@ -83,13 +83,13 @@ module _ (p : GtsParts) where
           }
           | inr e ↦ absurd (d (sym q.is_unit ∙ ap (λ (z : Event). z.unit.n) (this q.number q.event e q.stands)))
         ])
-        (answer_as (StillMoves moved marked event.ways.items) (Moves p marks (n + 1) event.unit.n) c on off h);
+        (answer_as (StillMoves moved marked event.ways.items) (MovesUnit p marks (n + 1) event.unit.n) c on off h);
   }
     where
       this : (k : ℕ) (x : Event) → k ≡ n → Stands p.events.items k x → x ≡ event
       this k x e s = stands_one p.events.items n x event (subst (λ (z : ℕ). Stands p.events.items z x) e s) st
 
-      grow : (u : ℕ) → Moves p marks n u → Moves p marks (n + 1) u
+      grow : (u : ℕ) → MovesUnit p marks n u → MovesUnit p marks (n + 1) u
       grow u q = record {
         number = q.number;
         below = omega (arith, q.below);
@@ -101,15 +101,15 @@ module _ (p : GtsParts) where
         has = q.has;
       }
 
-      was : (b : Bool) → b ≡ true → IsAnswer b (Moves p marks n event.unit.n) → Moves p marks n event.unit.n
+      was : (b : Bool) → b ≡ true → IsAnswer b (MovesUnit p marks n event.unit.n) → MovesUnit p marks n event.unit.n
       was true e q = q
       was false e q = absurd (cc e)
 
-      is_true : (b : Bool) → IsAnswer b (Moves p marks n event.unit.n) → Moves p marks n event.unit.n → b ≡ true
+      is_true : (b : Bool) → IsAnswer b (MovesUnit p marks n event.unit.n) → MovesUnit p marks n event.unit.n → b ≡ true
       is_true true q m = refl
       is_true false q m = absurd (q m)
 
-      on : StillMoves moved marked event.ways.items → Moves p marks (n + 1) event.unit.n
+      on : StillMoves moved marked event.ways.items → MovesUnit p marks (n + 1) event.unit.n
       on (inl e) = grow event.unit.n (was moved e (a.moves event.unit.n moved sm))
       on (inr q) = record {
         number = n;
@@ -122,7 +122,7 @@ module _ (p : GtsParts) where
         has = q.2;
       }
 
-      off : Moves p marks (n + 1) event.unit.n → StillMoves moved marked event.ways.items
+      off : MovesUnit p marks (n + 1) event.unit.n → StillMoves moved marked event.ways.items
       off q = elim (at_most q.number n q.below) [
         | inl l ↦ inl (is_true moved (a.moves event.unit.n moved sm)
             (record {

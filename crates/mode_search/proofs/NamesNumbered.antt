@@ -12,11 +12,11 @@ use Rattle.ar_firing.specs.Fragment.{Involves, as_target, as_source, GuardNames,
 use Rattle.gts_core.specs.View.{assign_of}
 use Rattle.gts_core.specs.declared.system.Assign.{Assign}
 use Rattle.gts_core.proofs.NamesNumbered.{ByNumber, mentions_there, mentions_back, reads_there, reads_back}
-use Rattle.mode_search.specs.Named.{NamesVariable, OneNames}
+use Rattle.mode_search.specs.Named.{AssignNamesVariable, OneNames}
 use Rattle.mode_search.specs.Modes.{transition_of}
 use Rattle.mode_search.proofs.Added.{some_item, some_here}
 
-involves_there : (a : Assign) (v : VarId) → NamesVariable a v → Involves v.n (assign_of a)
+involves_there : (a : Assign) (v : VarId) → AssignNamesVariable a v → Involves v.n (assign_of a)
 involves_there a v (inl e) = as_target (sym (ap (λ (z : VarId). z.n) e))
 involves_there a v (inr d) = as_source (reads_there a v d)
 
@@ -24,7 +24,7 @@ involves_parts : (x : ℕ) (b : s.Assign ℕ) → Involves x b → (b.target ≡
 involves_parts x b (as_target e) = inl e
 involves_parts x b (as_source d) = inr d
 
-involves_back : (a : Assign) (x : ℕ) → Involves x (assign_of a) → ByNumber (NamesVariable a) x
+involves_back : (a : Assign) (x : ℕ) → Involves x (assign_of a) → ByNumber (AssignNamesVariable a) x
 involves_back a x h = elim (involves_parts x (assign_of a) h) [
   | inl e ↦ record { variable = a.target; is = e; has = inl refl_target }
   | inr d ↦ (let r = reads_back a x d in record { variable = r.variable; is = r.is; has = inr r.has })
@@ -46,7 +46,7 @@ module _ (g : Expr VarId) (acts : List Assign) where
 
   pub action_there : (v : VarId) → OneNames acts v → ActionNames v.n (Leaf (transition_of g acts))
   action_there v h =
-      let o = some_item NamesVariable acts v h in
+      let o = some_item AssignNamesVariable acts v h in
       action (assign_of o.0) (record { place = o.1.place; stands = stands_map assign_of acts o.1.place o.0 o.1.stands })
       (involves_there o.0 v o.2)
 
@@ -59,4 +59,4 @@ module _ (g : Expr VarId) (acts : List Assign) where
       let o = action_parts x (transition_of g acts) h in
       let k = stands_map_back assign_of acts o.1.place o.0 o.1.stands in
       let r = involves_back k.0 x (subst (λ (z : s.Assign ℕ). Involves x z) (sym k.2) o.2) in
-      record { variable = r.variable; is = r.is; has = some_here NamesVariable acts r.variable k.0 o.1.place k.1 r.has }
+      record { variable = r.variable; is = r.is; has = some_here AssignNamesVariable acts r.variable k.0 o.1.place k.1 r.has }

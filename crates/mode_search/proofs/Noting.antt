@@ -6,24 +6,24 @@ use Rattle.ar_base.specs.Lists.{Stands}
 use Rattle.ar_base.specs.NumbersInside.{EventId}
 use Rattle.ar_base.proofs.Standing.{stands_one, stands_none, stands_left, stands_split, stands_next, at_most, stands_get}
 use Rattle.ar_base.proofs.Comparing.{low, three}
-use Rattle.mode_search.specs.Events.{IsLeast}
+use Rattle.mode_search.specs.Events.{IsLeastNumber}
 use Rattle.mode_search.proofs.Reading.{stands_set_other, stands_set_same, stands_repeat, long_repeat}
 use Rattle.mode_search.specs.declared.listing.Live.{Live}
 use Rattle.mode_search.specs.declared.sharing.Sharing.{Sharing}
-use Rattle.mode_search.specs.Sharing.{IsFirstOf, HasFirst, IsKnown, IsShared, lesser_of, IsLiveIn, IsSharing, IsEmptySharing, Notes, again, fresh}
+use Rattle.mode_search.specs.Sharing.{IsFirstOf, HasFirstLive, IsEventKnown, IsShared, lesser_found, IsLiveIn, IsSharing, IsEmptySharing, Notes, again, fresh}
 
-least_lesser : (P Q : ℕ → Type 0) (v : ℕ) (old : Option ℕ) → IsLeast P old → ((n : ℕ) → Q n → P n ⊎ (n ≡ v))
-    → ((n : ℕ) → P n → Q n) → Q v → IsLeast Q (Some (lesser_of old v))
+least_lesser : (P Q : ℕ → Type 0) (v : ℕ) (old : Option ℕ) → IsLeastNumber P old → ((n : ℕ) → Q n → P n ⊎ (n ≡ v))
+    → ((n : ℕ) → P n → Q n) → Q v → IsLeastNumber Q (Some (lesser_found old v))
 least_lesser P Q v None h split grow here =
     (here, λ n q. elim (split n q) [ inl p ↦ absurd (h n p) | inr e ↦ omega arith ])
 least_lesser P Q v (Some m) h split grow here = by (nat_lt v m) cc
   where
-    by : (c : Bool) → nat_lt v m ≡ c → IsLeast Q (Some (cond c v m))
+    by : (c : Bool) → nat_lt v m ≡ c → IsLeastNumber Q (Some (cond c v m))
     by true t = (here, λ n q. elim (split n q) [ inl p ↦ (let u = h.1 n p in let w = low v m t in omega arith) | inr e ↦ omega arith ])
     by false t = (grow m h.0, λ n q. elim (split n q) [ inl p ↦ h.1 n p | inr e ↦ (let w = ltb-false v m t in omega arith) ])
 
-least_same : (P Q : ℕ → Type 0) (old : Option ℕ) → IsLeast P old → ((n : ℕ) → Q n → P n) → ((n : ℕ) → P n → Q n)
-    → IsLeast Q old
+least_same : (P Q : ℕ → Type 0) (old : Option ℕ) → IsLeastNumber P old → ((n : ℕ) → Q n → P n) → ((n : ℕ) → P n → Q n)
+    → IsLeastNumber Q old
 least_same P Q None h back grow = λ n q. h n (back n q)
 least_same P Q (Some m) h back grow = (grow m h.0, λ n q. h.1 n (back n q))
 
@@ -31,16 +31,16 @@ module _ (events : ℕ) (live : List Live) where
   pub sharing_start : (s : Sharing) → IsEmptySharing events s → IsSharing events live 0 s
   sharing_start s h = record {
     long = ap length h.firsts ∙ long_repeat events None;
-    firsts = λ e o st. subst (λ (z : Option ℕ). IsKnown live 0 e z)
+    firsts = λ e o st. subst (λ (z : Option ℕ). IsEventKnown live 0 e z)
         (sym (stands_repeat events e None o (subst (λ (z : List (Option ℕ)). Stands z e o) h.firsts st)))
         (λ k l b. absurd (omega arith));
     sound = λ k e st. absurd (stands_none k e (subst (λ (z : List EventId). Stands z k e) h.events st));
     whole = λ k l b. absurd (omega arith);
     different = λ j k d e p q. absurd (stands_none j d (subst (λ (z : List EventId). Stands z j d) h.events p));
-    least = subst (λ (z : Option ℕ). IsLeast (IsShared live 0) z) (sym h.least) (λ n q. omega (arith, q.below));
+    least = subst (λ (z : Option ℕ). IsLeastNumber (IsShared live 0) z) (sym h.least) (λ n q. omega (arith, q.below));
   }
 
-  first_grows : (i e n : ℕ) → HasFirst live i e n → HasFirst live (i + 1) e n
+  first_grows : (i e n : ℕ) → HasFirstLive live i e n → HasFirstLive live (i + 1) e n
   first_grows i e n h = record { place = h.place; below = omega (arith, h.below); first = h.first; number = h.number }
 
   shared_grows : (i n : ℕ) → IsShared live i n → IsShared live (i + 1) n
@@ -70,7 +70,7 @@ module _ (events : ℕ) (live : List Live) where
   }
 
   -- the first live edges of one event stand at one place
-  one_first : (e : ℕ) (m n : ℕ) (h : HasFirst live m e n) (k : ℕ) → IsFirstOf live e k → h.place ≡ k
+  one_first : (e : ℕ) (m n : ℕ) (h : HasFirstLive live m e n) (k : ℕ) → IsFirstOf live e k → h.place ≡ k
   one_first e m n h k f = by (three h.place k)
     where
       by : (h.place < k) ⊎ ((h.place ≡ k) ⊎ (k < h.place)) → h.place ≡ k
@@ -82,8 +82,8 @@ module _ (events : ℕ) (live : List Live) where
     this : (l : Live) (k : ℕ) → k ≡ i → Stands live k l → l ≡ one
     this l k e t = stands_one live i l one (subst (λ (z : ℕ). Stands live z l) e t) st
 
-    known_on : (e : ℕ) (o : Option ℕ) → (one.edge.event.n ≡ e → o ≡ None → ⊥) → IsKnown live i e o
-        → IsKnown live (i + 1) e o
+    known_on : (e : ℕ) (o : Option ℕ) → (one.edge.event.n ≡ e → o ≡ None → ⊥) → IsEventKnown live i e o
+        → IsEventKnown live (i + 1) e o
     known_on e None d h = λ k l b t q. elim (at_most k i b) [
       | inl u ↦ h k l u t q
       | inr u ↦ d (sym (ap (λ (z : Live). z.edge.event.n) (this l k u t)) ∙ q) refl
@@ -91,7 +91,7 @@ module _ (events : ℕ) (live : List Live) where
     known_on e (Some n) d h = first_grows i e n h
 
     -- a pair that ends at the new edge begins at the first of its event
-    shared_cases : (n : ℕ) → IsShared live (i + 1) n → IsShared live i n ⊎ HasFirst live i one.edge.event.n n
+    shared_cases : (n : ℕ) → IsShared live (i + 1) n → IsShared live i n ⊎ HasFirstLive live i one.edge.event.n n
     shared_cases n q = elim (at_most q.place i q.below) [
       | inl u ↦ inl (record {
         event = q.event;
@@ -109,7 +109,7 @@ module _ (events : ℕ) (live : List Live) where
         is_event = q.is_event;
       })
       | inr u ↦ (let e : q.event ≡ one.edge.event.n = sym q.is_event ∙ ap (λ (z : Live). z.edge.event.n) (this q.second q.place u q.stands) in
-          inr (subst (λ (z : ℕ). HasFirst live i z n) e
+          inr (subst (λ (z : ℕ). HasFirstLive live i z n) e
           (record {
             place = q.first.place;
             below = omega (arith, q.after);
@@ -119,7 +119,7 @@ module _ (events : ℕ) (live : List Live) where
     ]
 
     noted_again : (v : ℕ) → Stands old.firsts.items one.edge.event.n (Some v) → new.firsts.items ≡ old.firsts.items
-        → new.events.items ≡ old.events.items → new.least ≡ Some (lesser_of old.least v)
+        → new.events.items ≡ old.events.items → new.least ≡ Some (lesser_found old.least v)
         → IsSharing events live (i + 1) new
     noted_again v sv ef ee el =
         let has = s.firsts one.edge.event.n (Some v) sv in record {
@@ -135,7 +135,7 @@ module _ (events : ℕ) (live : List Live) where
               ]);
           different = λ j k d e p q. s.different j k d e (subst (λ (z : List EventId). Stands z j d) ee p)
               (subst (λ (z : List EventId). Stands z k e) ee q);
-          least = subst (λ (z : Option ℕ). IsLeast (IsShared live (i + 1)) z) (sym el)
+          least = subst (λ (z : Option ℕ). IsLeastNumber (IsShared live (i + 1)) z) (sym el)
               (least_lesser (IsShared live i) (IsShared live (i + 1)) v old.least s.least
               (λ n q. elim (shared_cases n q) [
                 | inl h ↦ inl h
@@ -159,7 +159,7 @@ module _ (events : ℕ) (live : List Live) where
               }));
         }
       where
-        same_edge : {m n : ℕ} (h : HasFirst live i one.edge.event.n m) (k : HasFirst live i one.edge.event.n n)
+        same_edge : {m n : ℕ} (h : HasFirstLive live i one.edge.event.n m) (k : HasFirstLive live i one.edge.event.n n)
             → h.first.live_edge ≡ k.first.live_edge
         same_edge {m = m} h k =
             let at = one_first one.edge.event.n i m h k.place k.first in
@@ -175,7 +175,7 @@ module _ (events : ℕ) (live : List Live) where
           long = ap length ef ∙ length-set old.firsts.items one.edge.event.n (Some one.variable.n) ∙ s.long;
           firsts = λ e o t. let t2 = subst (λ (z : List (Option ℕ)). Stands z e o) ef t in elim (cases_eq e one.edge.event.n) [
             | inl same ↦ (let u : o ≡ Some one.variable.n = stands_set_same old.firsts.items one.edge.event.n (Some one.variable.n) o (subst (λ (z : ℕ). Stands (set old.firsts.items one.edge.event.n (Some one.variable.n)) z o) same t2) in
-                subst (λ (z : Option ℕ). IsKnown live (i + 1) e z) (sym u)
+                subst (λ (z : Option ℕ). IsEventKnown live (i + 1) e z) (sym u)
                 (record {
                   place = i;
                   below = omega arith;
@@ -208,7 +208,7 @@ module _ (events : ℕ) (live : List Live) where
               (subst (λ (z : List EventId). Stands z j d) ee p))
               (stands_split old.events.items (one.edge.event ∷ []) k e
               (subst (λ (z : List EventId). Stands z k e) ee q)) x;
-          least = subst (λ (z : Option ℕ). IsLeast (IsShared live (i + 1)) z) (sym el)
+          least = subst (λ (z : Option ℕ). IsLeastNumber (IsShared live (i + 1)) z) (sym el)
               (least_same (IsShared live i) (IsShared live (i + 1)) old.least s.least
               (λ n q. elim (shared_cases n q) [
                 | inl h ↦ h
@@ -232,11 +232,11 @@ module _ (events : ℕ) (live : List Live) where
           is_event = (last t.0 e t.2).1;
         }
 
-        no_old : (none : IsKnown live i one.edge.event.n None) (j : ℕ) (d : EventId) → Stands old.events.items j d
+        no_old : (none : IsEventKnown live i one.edge.event.n None) (j : ℕ) (d : EventId) → Stands old.events.items j d
             → d.n ≡ one.edge.event.n → ⊥
         no_old none j d t x = let h = s.sound j d t in none h.place h.live_edge h.below h.stands (ap (λ (z : EventId). z.n) h.is_event ∙ x)
 
-        different_by : (none : IsKnown live i one.edge.event.n None) (j k : ℕ) (d e : EventId)
+        different_by : (none : IsEventKnown live i one.edge.event.n None) (j k : ℕ) (d e : EventId)
             → Stands old.events.items j d ⊎ ((m : ℕ) × (j ≡ length old.events.items + m)
             × Stands (one.edge.event ∷ []) m d)
             → Stands old.events.items k e ⊎ ((m : ℕ) × (k ≡ length old.events.items + m)

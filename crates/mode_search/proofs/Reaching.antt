@@ -12,16 +12,16 @@ use Rattle.mode_search.specs.declared.moves.Move.TheVariants.{Still, To, Wrong}
 use Rattle.mode_search.specs.declared.kept.KeptWay.{KeptWay}
 use Rattle.mode_trees.specs.declared.forests.Edge.{Edge}
 use Rattle.mode_search.specs.declared.searching.Reach.{Reach}
-use Rattle.mode_search.specs.Reached.{AreApart, Leads, IsMoveOf, Setting, IsEdgeOf, IsReachable, here, along, EntersAgain, IsAgain, IsStart, AddsMove, IsDone, IsRecorded, Records, IsFound, IsReaching, Expands}
+use Rattle.mode_search.specs.Reached.{AreDifferentWays, Leads, IsMoveOf, Setting, IsEdgeOf, IsReachable, here, along, EntersAgain, HasModeAgain, IsFirstModeAlone, AddsMove, IsLookedAt, IsRecorded, Records, IsFoundEdge, IsReaching, Expands}
 
 abbrev to_of : Edge → Value
 to_of e = e.to
 
-done_cases : (next i j q : ℕ) → IsDone next (i + 1) j q → IsDone next i j q ⊎ ((j ≡ next) × (q ≡ i))
+done_cases : (next i j q : ℕ) → IsLookedAt next (i + 1) j q → IsLookedAt next i j q ⊎ ((j ≡ next) × (q ≡ i))
 done_cases next i j q (inl h) = inl (inl h)
 done_cases next i j q (inr h) = elim (at_most q i h.1) [ inl k ↦ inl (inr (h.0, k)) | inr k ↦ inr (h.0, k) ]
 
-done_more : (next i j q : ℕ) → IsDone next i j q → IsDone next (i + 1) j q
+done_more : (next i j q : ℕ) → IsLookedAt next i j q → IsLookedAt next (i + 1) j q
 done_more next i j q (inl h) = inl h
 done_more next i j q (inr h) = inr (h.0, omega (arith, h.1))
 
@@ -49,7 +49,7 @@ again_more first edges e h = record {
 
 -- the edge enters a mode that is there
 again_known : (first : Value) (modes : List Value) (edges : List Edge) (e : Edge) (b : Bool)
-    → IsAgain first modes edges b → IsOneOf modes e.to → EntersAgain first (edges ++ e ∷ [])
+    → HasModeAgain first modes edges b → IsOneOf modes e.to → EntersAgain first (edges ++ e ∷ [])
 again_known first modes edges e true h o = again_more first edges e h
 again_known first modes edges e false h o = record {
   place = length edges;
@@ -62,14 +62,14 @@ again_known first modes edges e false h o = record {
 }
 
 again_fresh : (first : Value) (modes : List Value) (edges : List Edge) (e : Edge) (b : Bool)
-    → IsAgain first modes edges b → IsAgain first (modes ++ e.to ∷ []) (edges ++ e ∷ []) b
+    → HasModeAgain first modes edges b → HasModeAgain first (modes ++ e.to ∷ []) (edges ++ e ∷ []) b
 again_fresh first modes edges e true h = again_more first edges e h
 again_fresh first modes edges e false h =
     ap (λ (z : List Value). z ++ e.to ∷ []) h
     ∙ ap (λ (z : List Value). first ∷ z) (sym (map-append to_of edges (e ∷ [])))
 
 module _ (s : Setting) (first : Value) where
-  pub start_reaching : (r : Reach) → Contains s.domain first → IsStart first r → IsReaching s first 0 0 r
+  pub start_reaching : (r : Reach) → Contains s.domain first → IsFirstModeAlone first r → IsReaching s first 0 0 r
   start_reaching r c h = record {
     begins = subst (λ (z : List Value). Stands z 0 first) (sym h.modes) refl;
     different = subst (λ (z : List Value). AreDifferent z) (sym h.modes) (record { one = λ m n a p q. let u = last_place first a m p in let v = last_place first a n q in omega (arith, u.0, v.0) });
@@ -86,12 +86,12 @@ module _ (s : Setting) (first : Value) where
       single : (m : Value) → IsOneOf r.modes.items m → first ≡ m
       single m o = only_item first m (subst (λ (z : List Value). IsOneOf z m) h.modes o)
 
-      by : (b : Bool) → b ≡ false → IsAgain first r.modes.items r.edges.items b
+      by : (b : Bool) → b ≡ false → HasModeAgain first r.modes.items r.edges.items b
       by true e = absurd (cc e)
       by false e = h.modes ∙ ap (λ (z : List Edge). first ∷ map to_of z) (sym h.edges)
 
   -- one way more at a mode
-  module _ (next i : ℕ) (old : Reach) (mode : Value) (way : KeptWay) (ways_apart : AreApart s.ways)
+  module _ (next i : ℕ) (old : Reach) (mode : Value) (way : KeptWay) (ways_apart : AreDifferentWays s.ways)
       (at_mode : Stands old.modes.items next mode) (at_way : Stands s.ways i way)
       (r : IsReaching s first next i old) where
     abbrev edge_of : Value → Edge
@@ -100,7 +100,7 @@ module _ (s : Setting) (first : Value) where
     records_more : (new : Reach) (move : Move) → Grows old new
         → ((j : ℕ) (m : Value) → j ≤ next → Stands new.modes.items j m → Stands old.modes.items j m)
         → IsMoveOf s.parts s.number s.domain way.way.n mode move → IsRecorded way mode move new
-        → (j q : ℕ) (m : Value) (k : KeptWay) → IsDone next (i + 1) j q → Stands new.modes.items j m → Stands s.ways q k
+        → (j q : ℕ) (m : Value) (k : KeptWay) → IsLookedAt next (i + 1) j q → Stands new.modes.items j m → Stands s.ways q k
         → Records s k m new
     records_more new move g back is recorded j q m k d st sw = elim (done_cases next i j q d) [
       | inl h ↦ (let o = r.records j q m k h (back j m (low j q h) st) sw in record { move = o.move; is = o.is; recorded = recorded_grows k m o.move old new g o.recorded })
@@ -111,11 +111,11 @@ module _ (s : Setting) (first : Value) where
           (record { move = move; is = is; recorded = recorded })))
     ]
       where
-        low : (j q : ℕ) → IsDone next i j q → j ≤ next
+        low : (j q : ℕ) → IsLookedAt next i j q → j ≤ next
         low j q (inl h) = omega (arith, h)
         low j q (inr h) = omega (arith, h.0)
 
-    found_more : (e : Edge) → IsFound s next i old e → IsFound s next (i + 1) old e
+    found_more : (e : Edge) → IsFoundEdge s next i old e → IsFoundEdge s next (i + 1) old e
     found_more e f = record {
       is_edge = f.is_edge;
       place = f.place;
@@ -167,7 +167,7 @@ module _ (s : Setting) (first : Value) where
       -- the new edge is found at the mode
       found_new : (new : Reach) (rest : List Value) → new.modes.items ≡ old.modes.items ++ rest
           → new.edges.items ≡ old.edges.items ++ edge_of to ∷ [] → (e : Edge) → IsOneOf new.edges.items e
-          → IsFound s next (i + 1) new e
+          → IsFoundEdge s next (i + 1) new e
       found_new new rest em ee e o = elim
           (one_split old.edges.items (edge_of to ∷ []) e (subst (λ (z : List Edge). IsOneOf z e) ee o)) [
             | inl k ↦ (let g = r.edges e k in record {
@@ -177,7 +177,7 @@ module _ (s : Setting) (first : Value) where
                   (stands_left old.modes.items rest g.place e.from g.from);
               done = done_more next i g.place g.is_edge.place g.done;
             })
-            | inr k ↦ subst (λ (z : Edge). IsFound s next (i + 1) new z) (only_item (edge_of to) e k) (record {
+            | inr k ↦ subst (λ (z : Edge). IsFoundEdge s next (i + 1) new z) (only_item (edge_of to) e k) (record {
               is_edge = is_edge;
               place = next;
               from = subst (λ (z : List Value). Stands z next mode) (sym em)
@@ -256,7 +256,7 @@ module _ (s : Setting) (first : Value) where
             apart = λ j k e f p q. edges_apart j k e f (subst (λ (z : List Edge). Stands z j e) ee p)
                 (subst (λ (z : List Edge). Stands z k f) ee q);
             wrong = λ w. r.wrong (sym ew ∙ w);
-            again = subst (λ (z : Bool). IsAgain first new.modes.items new.edges.items z) (sym ea)
+            again = subst (λ (z : Bool). HasModeAgain first new.modes.items new.edges.items z) (sym ea)
                 (subst (λ (z : List Edge). EntersAgain first z) (sym ee)
                 (again_known first old.modes.items old.edges.items (edge_of to) old.again r.again o));
           }
@@ -292,9 +292,9 @@ module _ (s : Setting) (first : Value) where
             apart = λ j k e f p q. edges_apart j k e f (subst (λ (z : List Edge). Stands z j e) ee p)
                 (subst (λ (z : List Edge). Stands z k f) ee q);
             wrong = λ w. r.wrong (sym ew ∙ w);
-            again = subst (λ (z : Bool). IsAgain first new.modes.items new.edges.items z) (sym ea)
-                (subst (λ (z : List Value). IsAgain first z new.edges.items old.again) (sym em)
-                (subst (λ (z : List Edge). IsAgain first (old.modes.items ++ to ∷ []) z old.again) (sym ee)
+            again = subst (λ (z : Bool). HasModeAgain first new.modes.items new.edges.items z) (sym ea)
+                (subst (λ (z : List Value). HasModeAgain first z new.edges.items old.again) (sym em)
+                (subst (λ (z : List Edge). HasModeAgain first (old.modes.items ++ to ∷ []) z old.again) (sym ee)
                 (again_fresh first old.modes.items old.edges.items (edge_of to) old.again r.again)));
           }
 
@@ -338,11 +338,11 @@ module _ (s : Setting) (first : Value) where
     again = h.again;
   }
     where
-      at : (j q : ℕ) (way : KeptWay) → Stands s.ways q way → (j < next) ⊎ (j ≡ next) → IsDone next (length s.ways) j q
+      at : (j q : ℕ) (way : KeptWay) → Stands s.ways q way → (j < next) ⊎ (j ≡ next) → IsLookedAt next (length s.ways) j q
       at j q way sw (inl k) = inl k
       at j q way sw (inr k) = inr (k, stands_within s.ways q way sw)
 
-      by : (j q : ℕ) (way : KeptWay) → IsDone (next + 1) 0 j q → Stands s.ways q way → IsDone next (length s.ways) j q
+      by : (j q : ℕ) (way : KeptWay) → IsLookedAt (next + 1) 0 j q → Stands s.ways q way → IsLookedAt next (length s.ways) j q
       by j q way (inl k) sw = at j q way sw (at_most j next k)
       by j q way (inr k) sw = absurd (omega (arith, k.1))
 

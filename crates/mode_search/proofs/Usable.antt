@@ -16,12 +16,12 @@ use Rattle.gts_core.proofs.Viewing.{variables_long}
 use Rattle.gts_core.specs.declared.system.Way.{Way}
 use Rattle.gts_core.specs.declared.system.GtsParts.{GtsParts}
 use Rattle.mode_search.specs.Modes.{transition_of}
-use Rattle.mode_search.specs.Kept.{ComesBefore, IsKeptAt}
+use Rattle.mode_search.specs.Kept.{IsLabelBefore, IsKeptAt}
 use Rattle.mode_search.specs.declared.kept.KeptWay.{KeptWay}
-use Rattle.mode_search.specs.Reached.{AreInside, AreApart, IsReach}
+use Rattle.mode_search.specs.Reached.{AreWaysOfParts, AreDifferentWays, IsReach}
 use Rattle.mode_search.specs.declared.searching.Reach.{Reach}
-use Rattle.mode_search.specs.Rows.{is_of, ways_of, AreBelow}
-use Rattle.mode_search.specs.Reaches.{AreListed, AreReaches}
+use Rattle.mode_search.specs.Rows.{is_of, variable_ways, HaveVariablesBelow}
+use Rattle.mode_search.specs.Reaches.{AreKeptWaysOf, AreReaches}
 
 -- an item that passes a test stands in the list, and two of them in their order
 module _ {A : Type 0} (test : A → Bool) where
@@ -72,11 +72,11 @@ mode_below : (system : System ℕ) (unit : ℕ) (w : Ways ℕ) (n : ℕ) → IsM
 mode_below system unit w n (f.named h) = stands_within system.net.variables n h.item h.stands
 mode_below system unit w n (f.first k h) = stands_within system.net.variables n h.item h.stands
 
-module _ (p : GtsParts) (sound : IsSound p) (kept : List KeptWay) (h : AreListed p kept) where
+module _ (p : GtsParts) (sound : IsSound p) (kept : List KeptWay) (h : AreKeptWaysOf p kept) where
   at : (q : ℕ) (k : KeptWay) → Stands kept q k → (l : Label) × Stands h.are.labels q l × IsKeptAt p h.marks l k
   at q k s = along_back h.are.labels kept h.are.are q k s
 
-  pub all_inside : AreInside p kept
+  pub all_inside : AreWaysOfParts p kept
   all_inside = record { inside = λ q k s. let w = at q k s in subst (λ (z : WayId). z.n < length p.ways.items) (sym w.2.is.is_way) (stands_within p.ways.items w.2.way.n w.2.is.local.way w.2.is.local.stands) }
 
   same_label : (l m : Label) (k j : KeptWay) → IsKeptAt p h.marks l k → IsKeptAt p h.marks m j → k.way ≡ j.way
@@ -91,11 +91,11 @@ module _ (p : GtsParts) (sound : IsSound p) (kept : List KeptWay) (h : AreListed
       let number = ap (λ (z : Way). z.number) one in
       (sym x.event ∙ event ∙ y.event, omega (arith, x.number, y.number, number))
 
-  not_before : (l m : Label) → l.event ≡ m.event → l.way ≡ m.way → ComesBefore l m → ⊥
+  not_before : (l m : Label) → l.event ≡ m.event → l.way ≡ m.way → IsLabelBefore l m → ⊥
   not_before l m e w (inl b) = omega arith
   not_before l m e w (inr b) = omega (arith, b.1)
 
-  pub all_apart : AreApart kept
+  pub all_apart : AreDifferentWays kept
   all_apart = record { one = λ q r k j s t e. by q r k j s t e (three q r) }
     where
       by : (q r : ℕ) (k j : KeptWay) → Stands kept q k → Stands kept r j → k.way ≡ j.way → (q < r) ⊎ ((q ≡ r) ⊎ (r < q))
@@ -108,7 +108,7 @@ module _ (p : GtsParts) (sound : IsSound p) (kept : List KeptWay) (h : AreListed
           let a = at q k s in let b = at r j t in let same = same_label a.0 b.0 k j a.2 b.2 e in
           absurd (not_before b.0 a.0 (sym same.0) (sym same.1) (h.are.ascend r q b.0 a.0 o b.1 a.1))
 
-  pub all_below : AreBelow (length p.variables.items) kept
+  pub all_below : HaveVariablesBelow (length p.variables.items) kept
   all_below = record {
     below = λ q k s.
         let w = at q k s in
@@ -119,10 +119,10 @@ module _ (p : GtsParts) (sound : IsSound p) (kept : List KeptWay) (h : AreListed
   }
 
   -- the same of those of one variable
-  pub row_inside : (n : ℕ) → AreInside p (ways_of n kept)
+  pub row_inside : (n : ℕ) → AreWaysOfParts p (variable_ways n kept)
   row_inside n = record { inside = λ q k s. let w = was (is_of n) kept q k s in all_inside.inside w.place k w.stands }
 
-  pub row_apart : (n : ℕ) → AreApart (ways_of n kept)
+  pub row_apart : (n : ℕ) → AreDifferentWays (variable_ways n kept)
   row_apart n = record {
     one = λ q r k j s t e. apart (is_of n) (λ (a b : KeptWay). a.way ≡ b.way) kept
         (λ m o a b u v i. all_apart.one m o a b u v i) q r k j s t e;
@@ -130,7 +130,7 @@ module _ (p : GtsParts) (sound : IsSound p) (kept : List KeptWay) (h : AreListed
 
   -- one variable more
   pub reaches_more : (n : ℕ) (reaches new : List Reach) (r : Reach) → AreReaches p kept n reaches
-      → IsReach p n (ways_of n kept) r → new ≡ reaches ++ r ∷ [] → AreReaches p kept (n + 1) new
+      → IsReach p n (variable_ways n kept) r → new ≡ reaches ++ r ∷ [] → AreReaches p kept (n + 1) new
   reaches_more n reaches new r a is e = subst (λ (z : List Reach). AreReaches p kept (n + 1) z) (sym e) (record {
     long = length_push reaches r ∙ ap (λ (k : ℕ). k + 1) a.long;
     each = λ m x s. elim (stands_split reaches (r ∷ []) m x s) [
@@ -139,12 +139,12 @@ module _ (p : GtsParts) (sound : IsSound p) (kept : List KeptWay) (h : AreListed
     ];
   })
     where
-      last : (m : ℕ) (x : Reach) (k : ℕ) → m ≡ length reaches + k → Stands (r ∷ []) k x → IsReach p m (ways_of m kept) x
+      last : (m : ℕ) (x : Reach) (k : ℕ) → m ≡ length reaches + k → Stands (r ∷ []) k x → IsReach p m (variable_ways m kept) x
       last m x zero i st =
           let here : m ≡ n = omega (arith, a.long) in
           let one : r ≡ x = only_item r x (record { place = zero; stands = st }) in
-          subst (λ (z : ℕ). IsReach p z (ways_of z kept) x) (sym here)
-          (subst (λ (z : Reach). IsReach p n (ways_of n kept) z) one is)
+          subst (λ (z : ℕ). IsReach p z (variable_ways z kept) x) (sym here)
+          (subst (λ (z : Reach). IsReach p n (variable_ways n kept) z) one is)
       last m x (suc k) i st = absurd (stands_none k x st)
 
 pub reaches_start : (p : GtsParts) (kept : List KeptWay) (reaches : List Reach) → reaches ≡ []

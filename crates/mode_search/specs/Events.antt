@@ -12,13 +12,13 @@ use Rattle.gts_core.specs.declared.system.GtsParts.{GtsParts}
 use Rattle.mode_search.specs.Modes.{IsStateAt}
 
 -- the least number that has P, or none where no number has
-abbrev pub IsLeast : (ℕ → Type 0) → Option ℕ → Type 0
-IsLeast P None = (n : ℕ) → P n → ⊥
-IsLeast P (Some n) = P n × ((k : ℕ) → P k → n ≤ k)
+abbrev pub IsLeastNumber : (ℕ → Type 0) → Option ℕ → Type 0
+IsLeastNumber P None = (n : ℕ) → P n → ⊥
+IsLeastNumber P (Some n) = P n × ((k : ℕ) → P k → n ≤ k)
 
 -- the plain numbers of events
-abbrev pub numbers_of : List EventId → List ℕ
-numbers_of events = map (λ (e : EventId). e.n) events
+abbrev pub plain_event_numbers : List EventId → List ℕ
+plain_event_numbers events = map (λ (e : EventId). e.n) events
 
 -- for each of so many events whether it is one of these
 pub record AreMarks (count : ℕ) (dropped : List ℕ) (marks : List Bool) : Type 0 where
@@ -49,7 +49,7 @@ pub record IsJointAt (p : GtsParts) (n : ℕ) : Type 0 where
   pub has : HasJoint p event.ways.items
 
 -- one of the first so many events that are not marked is of the unit and has a way
-pub record Moves (p : GtsParts) (marks : List Bool) (count unit : ℕ) : Type 0 where
+pub record MovesUnit (p : GtsParts) (marks : List Bool) (count unit : ℕ) : Type 0 where
   pub number : ℕ
   pub below : number < count
   pub event : Event
@@ -62,7 +62,7 @@ pub record Moves (p : GtsParts) (marks : List Bool) (count unit : ℕ) : Type 0 
 -- for each unit whether it moves
 pub record AreMoving (p : GtsParts) (marks : List Bool) (count : ℕ) (moving : List Bool) : Type 0 where
   pub long : length moving ≡ length p.units.items
-  pub moves : (unit : ℕ) (b : Bool) → Stands moving unit b → IsAnswer b (Moves p marks count unit)
+  pub moves : (unit : ℕ) (b : Bool) → Stands moving unit b → IsAnswer b (MovesUnit p marks count unit)
 
 -- the first of the first so many variables that is a state variable of the unit, or none
 abbrev pub IsFirstBelow : GtsParts → ℕ → ℕ → Option VarId → Type 0

@@ -44,8 +44,8 @@ items_of None = []
 items_of (Some k) = k ∷ []
 
 -- the first label comes before the second: by event, and then by the order in the event
-abbrev pub ComesBefore : Label → Label → Type 0
-ComesBefore l m = (l.event < m.event) ⊎ ((l.event ≡ m.event) × (l.way < m.way))
+abbrev pub IsLabelBefore : Label → Label → Type 0
+IsLabelBefore l m = (l.event < m.event) ⊎ ((l.event ≡ m.event) × (l.way < m.way))
 
 -- the label is that of this kept way, of an event that is not marked
 pub record IsKeptAt (p : GtsParts) (marks : List Bool) (l : Label) (kept : KeptWay) : Type 0 where
@@ -71,20 +71,20 @@ pub record IsToKeep (p : GtsParts) (marks : List Bool) (l : Label) : Type 0 wher
   pub state : HasNo (net_of p).variables (IsStateOf event.unit.n) → ⊥
 
 -- the kept ways before a label, each once, in order
-pub record AreKept (p : GtsParts) (marks : List Bool) (event way : ℕ) (kept : List KeptWay) : Type 0 where
+pub record AreKeptWaysBefore (p : GtsParts) (marks : List Bool) (event way : ℕ) (kept : List KeptWay) : Type 0 where
   pub labels : List Label
   pub are : Along (IsKeptAt p marks) labels kept
-  pub below : (j : ℕ) (l : Label) → Stands labels j l → ComesBefore l (record { event = event; way = way })
-  pub ascend : (j k : ℕ) (l m : Label) → j < k → Stands labels j l → Stands labels k m → ComesBefore l m
-  pub whole : (l : Label) → IsToKeep p marks l → ComesBefore l (record { event = event; way = way }) → IsOneOf labels l
+  pub below : (j : ℕ) (l : Label) → Stands labels j l → IsLabelBefore l (record { event = event; way = way })
+  pub ascend : (j k : ℕ) (l m : Label) → j < k → Stands labels j l → Stands labels k m → IsLabelBefore l m
+  pub whole : (l : Label) → IsToKeep p marks l → IsLabelBefore l (record { event = event; way = way }) → IsOneOf labels l
 
 -- the list got those of the first so many ways of the event that are to be kept
-pub record Extends (p : GtsParts) (id : EventId) (event : Event) (count : ℕ) (old new : List KeptWay) : Type 0 where
-  pub on : (marks : List Bool) → Stands marks id.n false → AreKept p marks id.n 0 old → AreKept p marks id.n count new
+pub record AddsKeptWays (p : GtsParts) (id : EventId) (event : Event) (count : ℕ) (old new : List KeptWay) : Type 0 where
+  pub on : (marks : List Bool) → Stands marks id.n false → AreKeptWaysBefore p marks id.n 0 old → AreKeptWaysBefore p marks id.n count new
 
 -- the list got the ways of the event that are to be kept, unless it is marked
 pub record Continues (p : GtsParts) (marks : List Bool) (event : ℕ) (old new : List KeptWay) : Type 0 where
-  pub on : AreKept p marks event 0 old → AreKept p marks (event + 1) 0 new
+  pub on : AreKeptWaysBefore p marks event 0 old → AreKeptWaysBefore p marks (event + 1) 0 new
 
 -- one of these ways does not name its mode variable alone, and this is the one of number n
 pub record OtherIn (alone : KeptWay → Bool) (kept : List KeptWay) (n : ℕ) : Type 0 where
@@ -102,7 +102,7 @@ abbrev pub OtherInAction : List KeptWay → ℕ → Type 0
 OtherInAction kept n = OtherIn (λ (k : KeptWay). k.mode.action_alone) kept n
 
 -- the lesser of what was found and a number, unless it stands alone
-abbrev pub least_with : Option ℕ → Bool → ℕ → Option ℕ
-least_with least true n = least
-least_with None false n = Some n
-least_with (Some m) false n = Some (if nat_lt n m then n else m)
+abbrev pub least_unless_alone : Option ℕ → Bool → ℕ → Option ℕ
+least_unless_alone least true n = least
+least_unless_alone None false n = Some n
+least_unless_alone (Some m) false n = Some (if nat_lt n m then n else m)

@@ -30,9 +30,9 @@ pub record IsNamedState (p : GtsParts) (unit : ℕ) (names : List VarId) (n : �
   pub is_state : IsStateAt p unit n
 
 -- the least number that has P, or none where no number has
-abbrev pub IsLeast : (ℕ → Type 0) → Option VarId → Type 0
-IsLeast P None = (n : ℕ) → P n → ⊥
-IsLeast P (Some x) = P x.n × ((n : ℕ) → P n → x.n ≤ n)
+abbrev pub IsLeastVariable : (ℕ → Type 0) → Option VarId → Type 0
+IsLeastVariable P None = (n : ℕ) → P n → ⊥
+IsLeastVariable P (Some x) = P x.n × ((n : ℕ) → P n → x.n ≤ n)
 
 -- the lesser of two numbers, where there are both
 abbrev pub lesser_of : Option VarId → Option VarId → Option VarId
@@ -41,9 +41,9 @@ lesser_of (Some m) None = Some m
 lesser_of (Some m) (Some n) = if nat_lt n.n m.n then Some n else Some m
 
 -- the plain number
-abbrev pub number_in : Option VarId → Option ℕ
-number_in None = None
-number_in (Some x) = Some x.n
+abbrev pub plain_number : Option VarId → Option ℕ
+plain_number None = None
+plain_number (Some x) = Some x.n
 
 -- whether the variable of number n is the only one of these
 abbrev pub IsAlone : List VarId → ℕ → Bool → Type 0

@@ -14,8 +14,8 @@ use Rattle.mode_search.specs.declared.moves.Move.{Move}
 use Rattle.mode_search.specs.declared.moves.Move.TheVariants.{Still, To, Wrong}
 
 -- the values of the variable of number x alone
-abbrev pub values_at : ℕ → List Value → VarId → List Value
-values_at x values y = if nat_eq y.n x then values else []
+abbrev pub lone_values_at : ℕ → List Value → VarId → List Value
+lone_values_at x values y = if nat_eq y.n x then values else []
 
 -- the facts where the variable of number x alone has these values
 abbrev pub HasAt : ℕ → List Value → ℕ → Value → Type 0
@@ -28,7 +28,7 @@ pub record GivesValue (facts : ℕ → Value → Type 0) (x : ℕ) (a : Assign) 
   pub yields : Yields facts (out-Expr ℕ (assign_of a).value) v
 
 -- the transition can fire, and gives the variable exactly one value, in the domain
-pub record IsStep (facts : ℕ → Value → Type 0) (d : Transition ℕ) (x : ℕ) (domain : List Value) (to : Value) : Type
+pub record IsModeStep (facts : ℕ → Value → Type 0) (d : Transition ℕ) (x : ℕ) (domain : List Value) (to : Value) : Type
     0 where
   pub can : Can facts (Leaf d)
   pub gives : Effects facts (Leaf d) x to
@@ -43,7 +43,7 @@ pub record IsWrong (facts : ℕ → Value → Type 0) (d : Transition ℕ) (x : 
 -- where the transition leads under these facts
 abbrev pub IsMove : (ℕ → Value → Type 0) → Transition ℕ → ℕ → List Value → Move → Type 0
 IsMove facts d x domain Still = Can facts (Leaf d) → ⊥
-IsMove facts d x domain (To v) = IsStep facts d x domain v
+IsMove facts d x domain (To v) = IsModeStep facts d x domain v
 IsMove facts d x domain Wrong = IsWrong facts d x domain
 
 -- the one of these values that the domain has, or that they are none, two, or one that it has not

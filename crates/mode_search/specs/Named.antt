@@ -6,9 +6,9 @@ use Rattle.gts_core.specs.declared.system.Assign.{Assign}
 use Rattle.mode_search.specs.Adding.{SomeHas}
 
 -- the variable is the assignment's target, or stands in its value or in a condition
-abbrev pub NamesVariable : Assign → VarId → Type 0
-NamesVariable a x = (x ≡ a.target) ⊎ ReadsVariable a x
+abbrev pub AssignNamesVariable : Assign → VarId → Type 0
+AssignNamesVariable a x = (x ≡ a.target) ⊎ ReadsVariable a x
 
 -- one of the assignments names the variable
 abbrev pub OneNames : List Assign → VarId → Type 0
-OneNames action x = SomeHas NamesVariable action x
+OneNames action x = SomeHas AssignNamesVariable action x

@@ -24,11 +24,11 @@ use Rattle.mode_trees.specs.declared.forests.Edge.{Edge}
 use Rattle.mode_search.specs.declared.searching.Reach.{Reach}
 
 -- each of these is a way of the parts
-pub record AreInside (p : GtsParts) (ways : List KeptWay) : Type 0 where
+pub record AreWaysOfParts (p : GtsParts) (ways : List KeptWay) : Type 0 where
   pub inside : (q : ℕ) (k : KeptWay) → Stands ways q k → k.way.n < length p.ways.items
 
 -- no way stands at two places
-pub record AreApart (ways : List KeptWay) : Type 0 where
+pub record AreDifferentWays (ways : List KeptWay) : Type 0 where
   pub one : (q r : ℕ) (k l : KeptWay) → Stands ways q k → Stands ways r l → k.way ≡ l.way → q ≡ r
 
 -- the way of this number is a transition and leads from one mode to another
@@ -83,9 +83,9 @@ pub record EntersAgain (first : Value) (edges : List Edge) : Type 0 where
   pub again : (edge.to ≡ first) ⊎ ((j : ℕ) × (f : Edge) × (j < place) × Stands edges j f × (f.to ≡ edge.to))
 
 -- whether an edge enters a mode again; where none does, each mode but the first is entered by one edge, in their order
-abbrev pub IsAgain : Value → List Value → List Edge → Bool → Type 0
-IsAgain first modes edges true = EntersAgain first edges
-IsAgain first modes edges false = modes ≡ first ∷ map (λ (e : Edge). e.to) edges
+abbrev pub HasModeAgain : Value → List Value → List Edge → Bool → Type 0
+HasModeAgain first modes edges true = EntersAgain first edges
+HasModeAgain first modes edges false = modes ≡ first ∷ map (λ (e : Edge). e.to) edges
 
 -- what the variable reaches from the first mode
 pub record IsReachFrom (s : Setting) (first : Value) (r : Reach) : Type 0 where
@@ -97,7 +97,7 @@ pub record IsReachFrom (s : Setting) (first : Value) (r : Reach) : Type 0 where
   pub apart : (j k : ℕ) (e f : Edge) → Stands r.edges.items j e → Stands r.edges.items k f → e.from ≡ f.from
       → e.way ≡ f.way → j ≡ k
   pub wrong : IsAnswer r.wrong (HasWrong s first)
-  pub again : IsAgain first r.modes.items r.edges.items r.again
+  pub again : HasModeAgain first r.modes.items r.edges.items r.again
 
 -- what the variable of this number reaches from its init value along the edges of these ways
 pub record IsReach (p : GtsParts) (n : ℕ) (ways : List KeptWay) (r : Reach) : Type 0 where
@@ -107,7 +107,7 @@ pub record IsReach (p : GtsParts) (n : ℕ) (ways : List KeptWay) (r : Reach) : 
       variable.value r
 
 -- the first mode alone
-pub record IsStart (first : Value) (r : Reach) : Type 0 where
+pub record IsFirstModeAlone (first : Value) (r : Reach) : Type 0 where
   pub modes : r.modes.items ≡ first ∷ []
   pub edges : r.edges.items ≡ []
   pub wrong : r.wrong ≡ false
@@ -128,8 +128,8 @@ AddsMove way mode (To to) old new =
     ReachesMore (record { from = mode; event = way.event; way = way.way; to = to }) old new
 
 -- the way of place q was looked at, at the mode of place j, before the way of place i at the mode of place next
-abbrev pub IsDone : ℕ → ℕ → ℕ → ℕ → Type 0
-IsDone next i j q = (j < next) ⊎ ((j ≡ next) × (q < i))
+abbrev pub IsLookedAt : ℕ → ℕ → ℕ → ℕ → Type 0
+IsLookedAt next i j q = (j < next) ⊎ ((j ≡ next) × (q < i))
 
 -- where the way leads from the mode is recorded
 abbrev pub IsRecorded : KeptWay → Value → Move → Reach → Type 0
@@ -144,11 +144,11 @@ pub record Records (s : Setting) (way : KeptWay) (mode : Value) (r : Reach) : Ty
   pub recorded : IsRecorded way mode move r
 
 -- an edge that was found at a mode of place j
-pub record IsFound (s : Setting) (next i : ℕ) (r : Reach) (e : Edge) : Type 0 where
+pub record IsFoundEdge (s : Setting) (next i : ℕ) (r : Reach) (e : Edge) : Type 0 where
   pub is_edge : IsEdgeOf s e
   pub place : ℕ
   pub from : Stands r.modes.items place e.from
-  pub done : IsDone next i place is_edge.place
+  pub done : IsLookedAt next i place is_edge.place
 
 -- what is reached so far, where the ways before place i were looked at, at the mode of place next, and all at those
 -- before
@@ -157,18 +157,18 @@ pub record IsReaching (s : Setting) (first : Value) (next i : ℕ) (r : Reach) :
   pub different : AreDifferent r.modes.items
   pub inside : (m : Value) → IsOneOf r.modes.items m → Contains s.domain m
   pub modes : (m : Value) → IsOneOf r.modes.items m → IsReachable s first m
-  pub edges : (e : Edge) → IsOneOf r.edges.items e → IsFound s next i r e
-  pub records : (j q : ℕ) (mode : Value) (way : KeptWay) → IsDone next i j q → Stands r.modes.items j mode
+  pub edges : (e : Edge) → IsOneOf r.edges.items e → IsFoundEdge s next i r e
+  pub records : (j q : ℕ) (mode : Value) (way : KeptWay) → IsLookedAt next i j q → Stands r.modes.items j mode
       → Stands s.ways q way → Records s way mode r
   pub apart : (j k : ℕ) (e f : Edge) → Stands r.edges.items j e → Stands r.edges.items k f → e.from ≡ f.from
       → e.way ≡ f.way → j ≡ k
   pub wrong : r.wrong ≡ true → HasWrong s first
-  pub again : IsAgain first r.modes.items r.edges.items r.again
+  pub again : HasModeAgain first r.modes.items r.edges.items r.again
 
 -- once the ways before place i were looked at, at the mode of place next
 pub record Expands (p : GtsParts) (n : ℕ) (domain : List Value) (ways : List KeptWay) (mode : Value) (i : ℕ)
     (old new : Reach) : Type 0 where
-  pub on : (first : Value) (next : ℕ) → AreApart ways → Stands old.modes.items next mode
+  pub on : (first : Value) (next : ℕ) → AreDifferentWays ways → Stands old.modes.items next mode
       → IsReaching (record { parts = p; number = n; domain = domain; ways = ways }) first next 0 old
       → Stands new.modes.items next mode
       × IsReaching (record { parts = p; number = n; domain = domain; ways = ways }) first next i new

@@ -3,7 +3,7 @@
 ghost use Rattle.std.specs.Prelude.{◌≡◌, ◌<◌, ◌^◌, length, IfOk};
 ghost use Rattle.gts_core.specs.Sound.{IsSound};
 ghost use Rattle.ar_meaning.specs.Found.{IsAnswer};
-ghost use Rattle.mode_search.specs.Events.{IsLeast, AreMarks, numbers_of, AreMoving, IsJoint, HasJoint, IsJointAt, IsStateless, StillMoves};
+ghost use Rattle.mode_search.specs.Events.{IsLeastNumber, AreMarks, plain_event_numbers, AreMoving, IsJoint, HasJoint, IsJointAt, IsStateless, StillMoves};
 
 use ar_base::{EventId, Memory, VarId, WayId, mark};
 use gts_core::{GtsParts, WayBody};
@@ -11,7 +11,7 @@ use std::alloc::Global;
 
 /// For each of so many events whether it is one of these.
 pub fn marked(alloc: Global, count: usize, dropped: &[EventId]) -> Result<Vec<bool>, Memory>
-    ensures { IfOk result (λ marks. AreMarks count (numbers_of dropped.now) marks.items) }
+    ensures { IfOk result (λ marks. AreMarks count (plain_event_numbers dropped.now) marks.items) }
 {
     let mut marks = vec![in alloc; false; count]?;
     for event in dropped {
@@ -23,7 +23,7 @@ pub fn marked(alloc: Global, count: usize, dropped: &[EventId]) -> Result<Vec<bo
 /// The first event that has a synchronised way. Takes no memory.
 pub fn first_joint(parts: &GtsParts) -> Option<u32>
     requires { IsSound parts.now }
-    ensures { IsLeast (IsJointAt parts.now) result }
+    ensures { IsLeastNumber (IsJointAt parts.now) result }
 {
     for (n, event) in parts.events.iter().enumerate() {
         if has_joint(parts, &event.ways) {
@@ -85,7 +85,7 @@ fn still_moves(moved: bool, marked: bool, ways: &[WayId]) -> bool
 pub fn first_stateless(moving: &[bool], firsts: &[Option<VarId>]) -> Option<u32>
     requires long { length moving.now ≡ length firsts.now }
     requires short { length moving.now < 2 ^ 32 }
-    ensures { IsLeast (IsStateless moving.now firsts.now) result }
+    ensures { IsLeastNumber (IsStateless moving.now firsts.now) result }
 {
     for (unit, moves) in moving.iter().enumerate() {
         if *moves && firsts[unit].is_none() {

@@ -4,11 +4,11 @@ ghost use Rattle.std.specs.Prelude.{◌≡◌, ◌++◌, ◌<◌, length, IfOk, 
 ghost use Rattle.ar_base.specs.Lists.{Stands};
 ghost use Rattle.ar_meaning.specs.FoundInside.{IsFirstOrNone};
 ghost use Rattle.ar_firing.specs.Fragment.{IsStateOf};
-ghost use Rattle.mode_search.specs.Modes.{number_in};
+ghost use Rattle.mode_search.specs.Modes.{plain_number};
 ghost use Rattle.gts_core.specs.View.{net_of};
 ghost use Rattle.gts_core.specs.Sound.{IsSound};
-ghost use Rattle.mode_search.specs.Events.{IsLeast, AreFirstStates};
-ghost use Rattle.mode_search.specs.Kept.{IsKeptOf, IsNoKept, AreKept, Extends, OtherInGuard, OtherInAction, least_with};
+ghost use Rattle.mode_search.specs.Events.{IsLeastNumber, AreFirstStates};
+ghost use Rattle.mode_search.specs.Kept.{IsKeptOf, IsNoKept, AreKeptWaysBefore, AddsKeptWays, OtherInGuard, OtherInAction, least_unless_alone};
 
 use crate::{WayMode, way_mode};
 use ar_base::{EventId, Memory, VarId, WayId};
@@ -39,7 +39,7 @@ pub fn kept_ways(
     requires sound { IsSound parts.now }
     requires marks { length marks.now ≡ length parts.now.events.items }
     requires firsts { AreFirstStates parts.now (length parts.now.variables.items) firsts.now }
-    ensures { IfOk result (λ kept. AreKept parts.now marks.now (length parts.now.events.items) 0
+    ensures { IfOk result (λ kept. AreKeptWaysBefore parts.now marks.now (length parts.now.events.items) 0
         kept.items) }
 {
     let mut kept = Vec::new(alloc);
@@ -71,8 +71,8 @@ fn add_event(
     requires sound { IsSound parts.now }
     requires event { Stands parts.now.events.items id.n event.now }
     requires first { IsFirstOrNone (net_of parts.now).variables (IsStateOf event.now.unit.n)
-        (number_in first) }
-    ensures { IfOk result (λ _. Extends parts.now id event.now (length event.now.ways.items)
+        (plain_number first) }
+    ensures { IfOk result (λ _. AddsKeptWays parts.now id event.now (length event.now.ways.items)
         kept.old.items kept.new.items) }
 {
     for way in &event.ways {
@@ -95,7 +95,7 @@ fn kept_way(
 ) -> Result<Option<KeptWay>, Memory>
     requires inside { way.n < length parts.now.ways.items }
     requires first { IsFirstOrNone (net_of parts.now).variables (IsStateOf event.now.unit.n)
-        (number_in first) }
+        (plain_number first) }
     ensures { IfOk result (λ found. MatchOption found (IsNoKept parts.now event.now way.n)
         (IsKeptOf parts.now id event.now way)) }
 {
@@ -117,7 +117,7 @@ fn kept_way(
 
 /// The least mode variable of these ways that has a way whose guard names another variable. Takes no memory.
 pub fn least_guard(kept: &[KeptWay]) -> Option<u32>
-    ensures { IsLeast (OtherInGuard kept.now) result }
+    ensures { IsLeastNumber (OtherInGuard kept.now) result }
 {
     let mut least = None;
     for way in kept {
@@ -128,7 +128,7 @@ pub fn least_guard(kept: &[KeptWay]) -> Option<u32>
 
 /// The least mode variable of these ways that has a way whose action names another variable. Takes no memory.
 pub fn least_action(kept: &[KeptWay]) -> Option<u32>
-    ensures { IsLeast (OtherInAction kept.now) result }
+    ensures { IsLeastNumber (OtherInAction kept.now) result }
 {
     let mut least = None;
     for way in kept {
@@ -139,7 +139,7 @@ pub fn least_action(kept: &[KeptWay]) -> Option<u32>
 
 // The lesser of what was found and this number, unless it stands alone.
 fn least_with(least: Option<u32>, alone: bool, number: u32) -> Option<u32>
-    ensures { result ≡ least_with least alone number }
+    ensures { result ≡ least_unless_alone least alone number }
 {
     if alone {
         return least;

@@ -5,7 +5,7 @@ ghost use Rattle.ar_base.specs.Lists.{HasNo};
 ghost use Rattle.ar_meaning.specs.FoundInside.{IsFirstOrNone};
 ghost use Rattle.ar_firing.specs.Fragment.{IsStateOf};
 ghost use Rattle.gts_core.specs.View.{net_of};
-ghost use Rattle.mode_search.specs.Modes.{IsStateAt, IsNamedState, IsLeast, lesser_of, IsAlone, number_in, transition_of, IsWayMode};
+ghost use Rattle.mode_search.specs.Modes.{IsStateAt, IsNamedState, IsLeastVariable, lesser_of, IsAlone, plain_number, transition_of, IsWayMode};
 
 use crate::names::{action_names, guard_names};
 use ar_base::{Memory, UnitId, VarId};
@@ -35,7 +35,7 @@ pub fn way_mode(
     guard: &Expr<VarId>,
     action: &[Assign],
 ) -> Result<Option<WayMode>, Memory>
-    requires { IsFirstOrNone (net_of parts.now).variables (IsStateOf unit.n) (number_in first) }
+    requires { IsFirstOrNone (net_of parts.now).variables (IsStateOf unit.n) (plain_number first) }
     ensures { IfOk result (λ found. MatchOption found
         (HasNo (net_of parts.now).variables (IsStateOf unit.n))
         (IsWayMode parts.now unit.n (transition_of guard.now action.now))) }
@@ -58,7 +58,7 @@ pub fn way_mode(
 
 // The least state variable of the unit among these.
 fn least_state(parts: &GtsParts, unit: UnitId, names: &[VarId]) -> Option<VarId>
-    ensures { IsLeast (IsNamedState parts.now unit.n names.now) result }
+    ensures { IsLeastVariable (IsNamedState parts.now unit.n names.now) result }
 {
     let mut least = None;
     for name in names {

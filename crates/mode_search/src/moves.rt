@@ -40,14 +40,14 @@ impl Env<VarId> for AtMode<'_> {
     ghost use Rattle.std.specs.Prelude.{slice_get};
     ghost use Rattle.domains.specs.declared.Value.TheVariants.{Truth};
     ghost use Rattle.typed_expr.specs.Kinds.{kind_of};
-    ghost use Rattle.typed_expr.specs.Rows.{first_of};
-    ghost use Rattle.mode_search.specs.Moves.{values_at};
+    ghost use Rattle.typed_expr.specs.Rows.{first_of_row};
+    ghost use Rattle.mode_search.specs.Moves.{lone_values_at};
 
-    ghost value_at = { λ e x. first_of (values_at e.variable.n e.values.now x) };
+    ghost value_at = { λ e x. first_of_row (lone_values_at e.variable.n e.values.now x) };
 
-    ghost facts_at = { λ e x. values_at e.variable.n e.values.now x };
+    ghost facts_at = { λ e x. lone_values_at e.variable.n e.values.now x };
 
-    ghost kind_at = { λ e x. kind_of (first_of (values_at e.variable.n e.values.now x)) };
+    ghost kind_at = { λ e x. kind_of (first_of_row (lone_values_at e.variable.n e.values.now x)) };
 
     fn value(&self, v: &VarId) -> Value {
         first_of(self.facts(v))

@@ -2,8 +2,8 @@
 
 ghost use Rattle.std.specs.Prelude.{◌<◌, ◌^◌, length, IfOk};
 ghost use Rattle.gts_core.specs.Sound.{IsSound};
-ghost use Rattle.mode_search.specs.Events.{IsLeast};
-ghost use Rattle.mode_search.specs.Reaches.{AreListed, AreReaches, IsWrongAt, IsAgainAt};
+ghost use Rattle.mode_search.specs.Events.{IsLeastNumber};
+ghost use Rattle.mode_search.specs.Reaches.{AreKeptWaysOf, AreReaches, IsWrongAt, IsAgainAt};
 
 use crate::rows::rows;
 use crate::{KeptWay, Reach, reached};
@@ -15,7 +15,7 @@ use std::alloc::Global;
 /// mode variable. The error is want of memory.
 pub fn all_reached(alloc: Global, parts: &GtsParts, kept: &[KeptWay]) -> Result<Vec<Reach>, Memory>
     requires sound { IsSound parts.now }
-    requires kept { AreListed parts.now kept.now }
+    requires kept { AreKeptWaysOf parts.now kept.now }
     ensures { IfOk result (λ reaches. AreReaches parts.now kept.now
         (length parts.now.variables.items) reaches.items) }
 {
@@ -31,7 +31,7 @@ pub fn all_reached(alloc: Global, parts: &GtsParts, kept: &[KeptWay]) -> Result<
 /// The least variable that has a way which is wrong at a mode that it reaches. Takes no memory.
 pub fn least_wrong(reaches: &[Reach]) -> Option<u32>
     requires { length reaches.now < 2 ^ 32 }
-    ensures { IsLeast (IsWrongAt reaches.now) result }
+    ensures { IsLeastNumber (IsWrongAt reaches.now) result }
 {
     for (n, reach) in reaches.iter().enumerate() {
         if reach.wrong {
@@ -44,7 +44,7 @@ pub fn least_wrong(reaches: &[Reach]) -> Option<u32>
 /// The least variable of which an edge enters the initial mode, or a mode that an earlier edge enters. Takes no memory.
 pub fn least_again(reaches: &[Reach]) -> Option<u32>
     requires { length reaches.now < 2 ^ 32 }
-    ensures { IsLeast (IsAgainAt reaches.now) result }
+    ensures { IsLeastNumber (IsAgainAt reaches.now) result }
 {
     for (n, reach) in reaches.iter().enumerate() {
         if reach.again {

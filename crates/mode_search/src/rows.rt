@@ -1,7 +1,7 @@
 //! The ways of each variable.
 
 ghost use Rattle.std.specs.Prelude.{[], IfOk};
-ghost use Rattle.mode_search.specs.Rows.{AreRows, AreBelow};
+ghost use Rattle.mode_search.specs.Rows.{AreVariableRows, HaveVariablesBelow};
 
 use crate::KeptWay;
 use ar_base::Memory;
@@ -13,8 +13,8 @@ pub(crate) fn rows(
     count: usize,
     kept: &[KeptWay],
 ) -> Result<Vec<Vec<KeptWay>>, Memory>
-    requires { AreBelow count kept.now }
-    ensures { IfOk result (λ rows. AreRows count kept.now rows.items) }
+    requires { HaveVariablesBelow count kept.now }
+    ensures { IfOk result (λ rows. AreVariableRows count kept.now rows.items) }
 {
     let mut rows = empty_rows(alloc, count)?;
     for way in kept {
@@ -27,7 +27,7 @@ pub(crate) fn rows(
 
 // So many rows without ways.
 fn empty_rows(alloc: Global, count: usize) -> Result<Vec<Vec<KeptWay>>, Memory>
-    ensures { IfOk result (λ rows. AreRows count [] rows.items) }
+    ensures { IfOk result (λ rows. AreVariableRows count [] rows.items) }
 {
     let mut rows = Vec::new(alloc);
     for _ in 0..count {

@@ -7,8 +7,8 @@ ghost use Rattle.ar_meaning.specs.Facts.{Allows};
 ghost use Rattle.ar_firing.specs.Rules.{AssignIsWide};
 ghost use Rattle.gts_core.specs.View.{net_of, numbered, assign_of};
 ghost use Rattle.gts_core.specs.Sound.{IsSound};
-ghost use Rattle.gts_core.specs.Rows.{AreDomains, Says};
-ghost use Rattle.mode_search.specs.Events.{IsLeast};
+ghost use Rattle.gts_core.specs.Rows.{AreDomains, TestSays};
+ghost use Rattle.mode_search.specs.Events.{IsLeastNumber};
 ghost use Rattle.mode_search.specs.Wide.{IsSomeWide, IsWideFlow, IsWideObserver, IsFirstWide};
 ghost use Rattle.ar_base.specs.Least.{least_with};
 
@@ -46,7 +46,7 @@ pub fn first_wide(alloc: Global, parts: &GtsParts) -> Result<Option<Wide>, Memor
 // The least flow to which an assertion assigns too many possible values.
 fn least_flow(alloc: Global, parts: &GtsParts, domains: &Domains) -> Result<Option<u32>, Memory>
     requires { AreDomains parts.now (length parts.now.variables.items) domains.now.rows.items }
-    ensures { IfOk result (IsLeast (IsWideFlow parts.now (length parts.now.assigns.items))) }
+    ensures { IfOk result (IsLeastNumber (IsWideFlow parts.now (length parts.now.assigns.items))) }
 {
     let mut least = None;
     for assign in &parts.assigns {
@@ -61,7 +61,7 @@ fn first_observer(alloc: Global, parts: &GtsParts, domains: &Domains) -> Result<
     requires sound { IsSound parts.now }
     requires domains { AreDomains parts.now (length parts.now.variables.items)
         domains.now.rows.items }
-    ensures { IfOk result (IsLeast (IsWideObserver parts.now)) }
+    ensures { IfOk result (IsLeastNumber (IsWideObserver parts.now)) }
 {
     for (n, observer) in parts.observers.iter().enumerate() {
         let wide = is_wide(alloc, &observer.value, domains)?;
@@ -74,7 +74,7 @@ fn first_observer(alloc: Global, parts: &GtsParts, domains: &Domains) -> Result<
 
 // Whether an assignment's expression or one of its conditions has too many possible values.
 fn is_assign_wide(alloc: Global, assign: &Assign, domains: &Domains) -> Result<bool, Memory>
-    ensures { IfOk result (Says domains.now.rows.items
+    ensures { IfOk result (TestSays domains.now.rows.items
         (λ p. AssignIsWide (net_of p) (assign_of assign.now))) }
 {
     let wide = is_wide(alloc, &assign.value, domains)?;
@@ -90,7 +90,7 @@ fn is_some_wide(
     conditions: &[(Expr<VarId>, bool)],
     domains: &Domains,
 ) -> Result<bool, Memory>
-    ensures { IfOk result (Says domains.now.rows.items (λ p. IsSomeWide p conditions.now)) }
+    ensures { IfOk result (TestSays domains.now.rows.items (λ p. IsSomeWide p conditions.now)) }
 {
     for (test, _) in conditions {
         let wide = is_wide(alloc, test, domains)?;
@@ -103,7 +103,7 @@ fn is_some_wide(
 
 // Whether a subexpression or a step of a fold has more than 64 possible values.
 fn is_wide(alloc: Global, expr: &Expr<VarId>, domains: &Domains) -> Result<bool, Memory>
-    ensures { IfOk result (Says domains.now.rows.items
+    ensures { IfOk result (TestSays domains.now.rows.items
         (λ p. IsWide (Allows (net_of p)) 64 (out-Expr ℕ (numbered expr.now)))) }
 {
     let found = possible_values(alloc, expr, domains, 64)?;

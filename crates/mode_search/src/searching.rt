@@ -3,7 +3,7 @@
 ghost use Rattle.std.specs.Prelude.{◌<◌, length, IfOk};
 ghost use Rattle.domains.specs.Domains.{IsDomain, values_of};
 ghost use Rattle.gts_core.specs.Sound.{IsSound};
-ghost use Rattle.mode_search.specs.Reached.{AreInside, AreApart, IsMoveOf, IsReach, Expands, AddsMove};
+ghost use Rattle.mode_search.specs.Reached.{AreWaysOfParts, AreDifferentWays, IsMoveOf, IsReach, Expands, AddsMove};
 
 use crate::{KeptWay, Move, move_at};
 use ar_base::{EventId, Memory, VarId, WayId};
@@ -36,8 +36,8 @@ pub fn reached(
 ) -> Result<Reach, Memory>
     requires sound { IsSound parts.now }
     requires variable { variable.n < length parts.now.variables.items }
-    requires inside { AreInside parts.now ways.now }
-    requires apart { AreApart ways.now }
+    requires inside { AreWaysOfParts parts.now ways.now }
+    requires apart { AreDifferentWays ways.now }
     ensures { IfOk result (IsReach parts.now variable.n ways.now) }
 {
     let place = &parts.variables[variable.n as usize];
@@ -77,7 +77,7 @@ fn expand(
     found: &mut Reach,
 ) -> Result<(), Memory>
     requires domain { IsDomain domain.now }
-    requires inside { AreInside parts.now ways.now }
+    requires inside { AreWaysOfParts parts.now ways.now }
     ensures { IfOk result (λ _. Expands parts.now variable.n (values_of domain.now) ways.now mode
         (length ways.now) found.old found.new) }
 {

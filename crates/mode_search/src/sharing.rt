@@ -1,7 +1,7 @@
 //! Events with two live edges, and the events that have one.
 
 ghost use Rattle.std.specs.Prelude.{◌≡◌, ◌<◌, length, IfOk};
-ghost use Rattle.mode_search.specs.Sharing.{AreWithin, IsSharing, Notes, lesser_of};
+ghost use Rattle.mode_search.specs.Sharing.{HaveEventsWithin, IsSharing, Notes, lesser_found};
 
 use crate::listing::Live;
 use ar_base::{EventId, Memory};
@@ -20,7 +20,7 @@ pub struct Sharing {
 
 /// Which of so many events have a live edge among these, and which have two. The error is want of memory.
 pub fn shared(alloc: Global, count: usize, live: &[Live]) -> Result<Sharing, Memory>
-    requires { AreWithin count live.now }
+    requires { HaveEventsWithin count live.now }
     ensures { IfOk result (IsSharing count live.now (length live.now)) }
 {
     let mut found = Sharing {
@@ -55,7 +55,7 @@ fn note(event: EventId, variable: u32, found: &mut Sharing) -> Result<(), Memory
 
 // The lesser of what was found and this number.
 fn lesser(least: Option<u32>, number: u32) -> u32
-    ensures { result ≡ lesser_of least number }
+    ensures { result ≡ lesser_found least number }
 {
     match least {
         Some(n) => if number < n { number } else { n },

@@ -5,7 +5,7 @@ use Rattle.ar_base.proofs.Standing.{stands_one, stands_none, stands_map}
 use Rattle.domains.specs.declared.Value.{Value}
 use Rattle.mode_trees.specs.declared.forests.Edge.{Edge}
 use Rattle.mode_trees.proofs.Fewer.{no_more}
-use Rattle.mode_trees.specs.Paths.{EntersOnce, LeadTo, root, along, IsWithin}
+use Rattle.mode_trees.specs.Paths.{EntersOnce, LeadTo, root, along, IsOffPath}
 
 module _ (first : Value) (edges : List Edge) (once : EntersOnce first edges) where
   abbrev entered : List Value
@@ -79,9 +79,9 @@ module _ (first : Value) (edges : List Edge) (once : EntersOnce first edges) whe
   path_short {es = es} p = no_more es edges (path_different p) (path_inside p)
 
 -- below an edge there is less room
-pub within_next : {edges : List Edge} {mode : Value} {room : ℕ} → IsWithin edges mode room → (e : Edge)
+pub within_next : {edges : List Edge} {mode : Value} {room : ℕ} → IsOffPath edges mode room → (e : Edge)
     → IsOneOf edges e → e.from ≡ mode
-    → (0 < room) × ((less : ℕ) → less + 1 ≡ room → IsWithin edges e.to less)
+    → (0 < room) × ((less : ℕ) → less + 1 ≡ room → IsOffPath edges e.to less)
 within_next {edges} {mode} {room} w e o i =
     let p = along e w.leads o i in
     let short = path_short w.first edges w.enters p in
@@ -92,6 +92,6 @@ within_next {edges} {mode} {room} w e o i =
     )
 
 pub within_first : (first : Value) (edges : List Edge) → AreDifferent (first ∷ map (λ (e : Edge). e.to) edges)
-    → IsWithin edges first (length edges)
+    → IsOffPath edges first (length edges)
 within_first first edges h =
     record { first = first; enters = record { different = h }; path = []; leads = root; long = omega arith }

@@ -10,12 +10,12 @@ use Rattle.mode_trees.specs.declared.forests.Forest.{Forest}
 
 -- an edge with its label and its two modes, where `number` gives each way its number among the ways of its event,
 -- counted from 0
-abbrev pub row_of : (ℕ → ℕ) → Edge → Row
-row_of number e = record { from = e.from; label = record { event = e.event.n; way = number e.way.n }; to = e.to }
+abbrev pub edge_row : (ℕ → ℕ) → Edge → Row
+edge_row number e = record { from = e.from; label = record { event = e.event.n; way = number e.way.n }; to = e.to }
 
 -- a tree with its edges so seen
 abbrev pub tree_of : (ℕ → ℕ) → ModeTree → firing.ModeTree
-tree_of number t = record { variable = t.variable.n; first = t.first; edges = map (row_of number) t.edges.items }
+tree_of number t = record { variable = t.variable.n; first = t.first; edges = map (edge_row number) t.edges.items }
 
 -- the trees of a forest so seen
 abbrev pub trees_of : (ℕ → ℕ) → Forest → List firing.ModeTree

@@ -4,8 +4,8 @@ ghost use Rattle.std.specs.Prelude.{◌≡◌, ◌≤◌, ◌^◌, ◌∷◌, le
 ghost use Rattle.ar_base.specs.Lists.{AreDifferent};
 ghost use Rattle.ar_meaning.specs.Found.{IsAnswer};
 ghost use Rattle.mode_trees.specs.declared.forests.Edge.{Edge};
-ghost use Rattle.mode_trees.specs.Below.{IsBelow};
-ghost use Rattle.mode_trees.specs.Paths.{IsWithin, Leaves, IsNextOrNone, earlier_of, GetsBelow};
+ghost use Rattle.mode_trees.specs.Below.{AreEdgesBelow};
+ghost use Rattle.mode_trees.specs.Paths.{IsOffPath, LeavesMode, IsNextOrNone, earlier_of, GetsBelow};
 
 use crate::Edge;
 use ar_base::Memory;
@@ -16,7 +16,7 @@ use std::alloc::Global;
 /// one mode by their events' numbers. The error is want of memory.
 pub fn edges_below(alloc: Global, first: Value, edges: &[Edge]) -> Result<Vec<Edge>, Memory>
     requires enters { AreDifferent (first ∷ map (λ (e : Edge). e.to) edges.now) }
-    ensures { IfOk result (λ below. IsBelow edges.now first 0 below.items) }
+    ensures { IfOk result (λ below. AreEdgesBelow edges.now first 0 below.items) }
 {
     let mut below = Vec::new(alloc);
     add_below(edges, first, 0, edges.len(), &mut below)?;
@@ -33,7 +33,7 @@ fn add_below(
     below: &mut Vec<Edge>,
 ) -> Result<(), Memory>
     requires low { low ≤ 2 ^ 32 }
-    requires within { IsWithin edges.now mode room }
+    requires within { IsOffPath edges.now mode room }
     ensures { IfOk result (λ _. GetsBelow edges.now mode low below.old.items below.new.items) }
 {
     let edge = match next_edge(edges, mode, low) {
@@ -60,7 +60,7 @@ fn next_edge(edges: &[Edge], from: Value, low: u64) -> Option<Edge>
 
 // Whether the edge leaves this mode by an event from number `low` on.
 fn leaves(edge: Edge, from: Value, low: u64) -> bool
-    ensures { IsAnswer result (Leaves from low edge) }
+    ensures { IsAnswer result (LeavesMode from low edge) }
 {
     edge.from == from && low <= edge.event.n as u64
 }

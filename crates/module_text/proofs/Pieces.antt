@@ -22,24 +22,24 @@ use Rattle.gate_modules.specs.declared.ranges.Module.{Module}
 use Rattle.gate_modules.specs.declared.ranges.Short.{Short}
 use Rattle.gate_modules.specs.declared.ranges.ShortSet.{ShortSet}
 use Rattle.cut_text.specs.Texts.{braced}
-use Rattle.module_text.specs.Arranged.{unit_pieces, way_pieces, line_pieces, part_pieces, form_pieces, pieces_of, IsGroupOf, piece_text, line_text, part_lines, groups_lines, form_lines, IsInside, AreInside, LinesInside, GroupsInside}
-use Rattle.module_text.specs.Printed.{labels_in, module_lines, form_line}
+use Rattle.module_text.specs.Arranged.{unit_pieces, way_pieces, line_pieces, part_pieces, form_pieces, pieces_of, IsGroupOf, piece_text, line_text, part_lines, groups_lines, form_lines, IsInside, ArePiecesOf, LinesInside, GroupsInside}
+use Rattle.module_text.specs.Printed.{edge_labels_in, module_lines, form_line}
 use Rattle.module_text.specs.Texts.{module_line, part_line, unit_mark, lines_line}
 use Rattle.module_text.specs.declared.arranging.Piece.{Piece}
 use Rattle.module_text.specs.declared.arranging.Piece.TheVariants.{Unit as AUnit, Way as AWay}
 use Rattle.module_text.specs.declared.arranging.Line.{Line}
 use Rattle.module_text.specs.declared.arranging.Group.{Group}
-use Rattle.cut_text.specs.Printed.{edges_of}
+use Rattle.cut_text.specs.Printed.{forest_edges}
 use Rattle.cut_text.proofs.TableLemmas.{tree_of_edge}
 
-pub edges_push : (ts : List ModeTree) (t : ModeTree) → edges_of (ts ++ t ∷ []) ≡ edges_of ts ++ t.edges.items
+pub edges_push : (ts : List ModeTree) (t : ModeTree) → forest_edges (ts ++ t ∷ []) ≡ forest_edges ts ++ t.edges.items
 edges_push [] t = append_nil t.edges.items
   where
     append_nil : (xs : List Edge) → xs ++ [] ≡ xs
     append_nil [] = refl
     append_nil (x ∷ xs) = ap (λ z. x ∷ z) (append_nil xs)
 edges_push (u ∷ ts) t = ap (λ z. u.edges.items ++ z) (edges_push ts t)
-    ∙ sym (append_assoc u.edges.items (edges_of ts) t.edges.items)
+    ∙ sym (append_assoc u.edges.items (forest_edges ts) t.edges.items)
 
 -- one group more
 pub groups_more : (edges : List Edge) (ms : List Module) (k : ℕ) (m : Module) (gs new : List Group) (g : Group)
@@ -73,23 +73,23 @@ one_filtered q (x ∷ xs) e i = step (one_filtered q xs e) (q x) i
     step ih false i = one_rest x xs e (ih i)
 
 module _ (p : GtsParts) (ts : List ModeTree) (own : OwnTheirWays p ts) where
-  edge_inside : (e : Edge) → IsOneOf (edges_of ts) e → e.way.n < length p.ways.items
+  edge_inside : (e : Edge) → IsOneOf (forest_edges ts) e → e.way.n < length p.ways.items
   edge_inside e i =
       let r = tree_of_edge ts e i in
       let o = (own.each r.0 r.1).each e r.2 in
       stands_within p.ways.items e.way.n o.way o.stands
 
-  line_inside : (units : List UnitId) (set : List ℕ) → AreInside p (line_pieces (edges_of ts) units set)
+  line_inside : (units : List UnitId) (set : List ℕ) → ArePiecesOf p (line_pieces (forest_edges ts) units set)
   line_inside units set = record {
-    each = λ x i. elim (one_split (unit_pieces units) (way_pieces (edges_of ts) set) x i) [
+    each = λ x i. elim (one_split (unit_pieces units) (way_pieces (forest_edges ts) set) x i) [
       | inl j ↦ (let t = one_mapped (λ (u : UnitId). AUnit u) units x j in subst (IsInside p) t.2 tt)
-      | inr j ↦ (let t = one_mapped (λ (e : Edge). AWay e.way) (filter (λ (e : Edge). holds e.event.n set) (edges_of ts)) x j in
+      | inr j ↦ (let t = one_mapped (λ (e : Edge). AWay e.way) (filter (λ (e : Edge). holds e.event.n set) (forest_edges ts)) x j in
           subst (IsInside p) t.2 (edge_inside t.0
-          (one_filtered (λ (e : Edge). holds e.event.n set) (edges_of ts) t.0 t.1)))
+          (one_filtered (λ (e : Edge). holds e.event.n set) (forest_edges ts) t.0 t.1)))
     ];
   }
 
-  inside_from : {A : Type 0} (f : A → List Piece) → ((a : A) → AreInside p (f a)) → (xs : List A) (lines : List Line)
+  inside_from : {A : Type 0} (f : A → List Piece) → ((a : A) → ArePiecesOf p (f a)) → (xs : List A) (lines : List Line)
       → map pieces_of lines ≡ map f xs → LinesInside p lines
   inside_from f h xs lines e = record {
     each = λ l i.
@@ -97,20 +97,20 @@ module _ (p : GtsParts) (ts : List ModeTree) (own : OwnTheirWays p ts) where
         (subst (λ z. IsOneOf z l.pieces.items) e
         (one_here (map pieces_of lines) i.place l.pieces.items
         (stands_map pieces_of lines i.place l i.stands))) in
-        subst (AreInside p) t.2 (h t.0);
+        subst (ArePiecesOf p) t.2 (h t.0);
   }
 
   pub forms_inside : (sets : List ShortSet) (lines : List Line)
-      → map pieces_of lines ≡ map (form_pieces (edges_of ts)) sets → LinesInside p lines
-  forms_inside sets lines e = inside_from (form_pieces (edges_of ts))
+      → map pieces_of lines ≡ map (form_pieces (forest_edges ts)) sets → LinesInside p lines
+  forms_inside sets lines e = inside_from (form_pieces (forest_edges ts))
       (λ s. line_inside s.units.items (event_numbers s.events.items)) sets lines e
 
-  parts_inside : (sets : List EventSet) (lines : List Line) → map pieces_of lines ≡ map (part_pieces (edges_of ts)) sets
+  parts_inside : (sets : List EventSet) (lines : List Line) → map pieces_of lines ≡ map (part_pieces (forest_edges ts)) sets
       → LinesInside p lines
-  parts_inside sets lines e = inside_from (part_pieces (edges_of ts)) (λ s. line_inside [] (event_numbers
+  parts_inside sets lines e = inside_from (part_pieces (forest_edges ts)) (λ s. line_inside [] (event_numbers
       s.events.items)) sets lines e
 
-  pub groups_inside : (ms : List Module) (gs : List Group) → Along (IsGroupOf (edges_of ts)) ms gs → GroupsInside p gs
+  pub groups_inside : (ms : List Module) (gs : List Group) → Along (IsGroupOf (forest_edges ts)) ms gs → GroupsInside p gs
   groups_inside ms gs a = record { each = λ g i. let t = along_back ms gs a i.place g i.stands in parts_inside t.0.sets.items g.lines.items t.2.lines }
 
 pub head_pieces : (path t : List ℕ) → path ≡ t → codes "module " ++ (path ++ 10 ∷ []) ≡ module_line t
@@ -128,7 +128,7 @@ last_pieces n = line_after (codes "lines ") (decimal n) _ refl
 -- ---- the whole text
 texts_kept : (p : GtsParts) (edges : List Edge) (units : List UnitId) (set : List ℕ)
     → map (piece_text p) (line_pieces edges units set)
-    ≡ map (λ u. unit_mark (text_at p.units.items u)) (map (λ (u : UnitId). u.n) units) ++ labels_in p edges set
+    ≡ map (λ u. unit_mark (text_at p.units.items u)) (map (λ (u : UnitId). u.n) units) ++ edge_labels_in p edges set
 texts_kept p edges units set = map-append (piece_text p) (unit_pieces units) (way_pieces edges set)
     ∙ ap₂ (λ y z. y ++ z) (marks units) (labels (filter (λ (e : Edge). holds e.event.n set) edges))
   where
@@ -159,7 +159,7 @@ module _ (p : GtsParts) (edges : List Edge) where
           s.events.items)) (each ss)
 
   part_texts : (sets : List EventSet) (lines : List Line) → map pieces_of lines ≡ map (part_pieces edges) sets
-      → part_lines p lines ≡ flat_map (λ set. part_line (braced (labels_in p edges set))) (map set_of sets)
+      → part_lines p lines ≡ flat_map (λ set. part_line (braced (edge_labels_in p edges set))) (map set_of sets)
   part_texts sets lines e = through lines ∙ ap (flat_map (λ ps. part_line (braced (map (piece_text p) ps)))) e
       ∙ each sets
     where
@@ -169,7 +169,7 @@ module _ (p : GtsParts) (edges : List Edge) where
       through (l ∷ ls) = ap (λ z. part_line (line_text p l) ++ z) (through ls)
 
       each : (ss : List EventSet) → flat_map (λ ps. part_line (braced (map (piece_text p) ps)))
-          (map (part_pieces edges) ss) ≡ flat_map (λ set. part_line (braced (labels_in p edges set))) (map set_of ss)
+          (map (part_pieces edges) ss) ≡ flat_map (λ set. part_line (braced (edge_labels_in p edges set))) (map set_of ss)
       each [] = refl
       each (s ∷ ss) = ap₂ (λ y z. part_line (braced y) ++ z) (texts_kept p edges [] (event_numbers s.events.items))
           (each ss)

@@ -27,7 +27,7 @@ use Rattle.zdd_families.specs.Families.{holds}
 use Rattle.zdd_families.proofs.Ascending.{IsAscending, ascends_from}
 use Rattle.zdd_families.proofs.Members.{holds_law}
 use Rattle.mode_trees.specs.declared.forests.ModeTree.{ModeTree}
-use Rattle.cut_text.specs.Printed.{edges_of}
+use Rattle.cut_text.specs.Printed.{forest_edges}
 use Rattle.module_text.specs.Arranged.{way_pieces, pieces_of}
 use Rattle.module_text.specs.declared.arranging.Line.{Line}
 use Rattle.module_text.proofs.Pieces.{edges_push}
@@ -139,15 +139,15 @@ edges_more before edges i d table lt are =
     ∙ ap (λ (z : List Edge). before ++ z) (sym (take_more edges i d lt))) are
 
 pub tree_more : (ts xs : List ModeTree) (k : ℕ) (t : ModeTree) → xs ≡ ts → k < length xs → t ≡ get_or xs k t
-    → (es : List Edge) → es ≡ t.edges.items → (table : EdgePlaces) → ArePlacesOf (edges_of (take k ts) ++ es) table
-    → ArePlacesOf (edges_of (take (k + 1) ts)) table
+    → (es : List Edge) → es ≡ t.edges.items → (table : EdgePlaces) → ArePlacesOf (forest_edges (take k ts) ++ es) table
+    → ArePlacesOf (forest_edges (take (k + 1) ts)) table
 tree_more ts xs k t same l is es e table are =
     let at : t ≡ get_or ts k t = subst (λ (z : List ModeTree). t ≡ get_or z k t) same is in
     let more : take (k + 1) ts ≡ take k ts ++ t ∷ [] =
     take_more ts k t (subst (λ (z : List ModeTree). k < length z) same l)
     ∙ ap (λ (z : ModeTree). take k ts ++ z ∷ []) (sym at) in
     subst (λ (z : List Edge). ArePlacesOf z table)
-    (ap (λ (z : List Edge). edges_of (take k ts) ++ z) e ∙ sym (edges_push (take k ts) t) ∙ ap edges_of (sym more)) are
+    (ap (λ (z : List Edge). forest_edges (take k ts) ++ z) e ∙ sym (edges_push (take k ts) t) ∙ ap forest_edges (sym more)) are
 
 -- ---- rows
 pub row_past : (rows : List Row) (e : ℕ) → length rows ≤ e → row_of rows e ≡ []

@@ -9,7 +9,7 @@ use Rattle.hierarchy.specs.declared.tree.UnitNode.{UnitNode}
 use Rattle.gate_modules.specs.Modules.{lies}
 use Rattle.gate_modules.specs.declared.ranges.Range.{Range}
 use Rattle.gate_modules.proofs.Exchange.{lies_in, in_lies}
-use Rattle.module_text.specs.Spans.{AreBelow, IsOver, here, above, IsOf, Gains, AllGain, IsAt, IsAtFirst, IsEmpty, AreEmpty, ReachesTo, AllReach}
+use Rattle.module_text.specs.Spans.{StandBehindOwners, IsOver, here, above, IsOf, Gains, AllGain, IsAt, IsAtFirst, IsEmpty, AreEmptyRanges, ReachesTo, AllReach}
 use Rattle.module_text.proofs.Spanning.{over_least}
 
 -- a range that has numbers and reaches up to the event ends before it
@@ -23,7 +23,7 @@ reached_end event r h l = ⊎_elim
 pub all_reach : (nodes : List UnitNode) (events : List MemNode) (n : ℕ) (d : MemNode) (start old : List Range)
     → ((k x y z : ℕ) → x < y → y < z → IsOf nodes events (suc k) x → IsOf nodes events (suc k) z
     → IsOf nodes events (suc k) y)
-    → AreEmpty (length nodes) start → Stands events n d → AllGain (IsAtFirst nodes events n) start old
+    → AreEmptyRanges (length nodes) start → Stands events n d → AllGain (IsAtFirst nodes events n) start old
     → AllReach nodes d.unit.n n old
 all_reach nodes events n d start old together empty s g = record {
   each = λ k r at over. let t = g.each k r at in reaches k r t.before (empty.each k t.before t.stood) t.gains over;
@@ -45,7 +45,7 @@ all_reach nodes events n d start old together empty s g = record {
         next x w (inr l) = inl (let h = w.0 in omega (arith, l, h))
 
 -- the ranges above the unit reach up to the event as before
-pub above_reach : (nodes : List UnitNode) → AreBelow nodes
+pub above_reach : (nodes : List UnitNode) → StandBehindOwners nodes
     → (u e p : ℕ) (d : UnitNode) (o : UnitId) (xs ys : List Range) → Stands nodes u d → d.owner ≡ Some o → p + 1 ≡ u
     → AllReach nodes u e xs → AllGain (IsAt p e) xs ys → AllReach nodes o.n e ys
 above_reach nodes below u e p d o xs ys s f q h g = record {

@@ -7,10 +7,10 @@ use Rattle.ar_base.proofs.Standing.{stands_one, stands_within, at_most}
 use Rattle.hierarchy.specs.declared.tree.MemNode.{MemNode}
 use Rattle.hierarchy.specs.declared.tree.UnitNode.{UnitNode}
 use Rattle.gate_modules.specs.Modules.{lies, Covers}
-use Rattle.gate_modules.specs.ModulesInside.{AreRanges, AreApart, HasEvents}
+use Rattle.gate_modules.specs.ModulesInside.{AreRanges, ShareNoEvent, HasEvents}
 use Rattle.gate_modules.specs.declared.ranges.Range.{Range}
 use Rattle.gate_modules.proofs.Exchange.{lies_in, in_lies}
-use Rattle.module_text.specs.Spans.{AreBelow, IsOver, here, above, IsOf, GainsAt, AllGain, IsAt, IsAtOver, IsAtFirst, IsEmpty, AreEmpty}
+use Rattle.module_text.specs.Spans.{StandBehindOwners, IsOver, here, above, IsOf, GainsAt, AllGain, IsAt, IsAtOver, IsAtFirst, IsEmpty, AreEmptyRanges}
 
 -- a range with events whose events are all of the other one lies within it
 pub covers_by : (a b : Range) → ((y : ℕ) → lies b y ≡ true → lies a y ≡ true) → HasEvents b → Covers a b
@@ -22,11 +22,11 @@ covers_by a b more some =
 
 -- ranges that are nested where they have a common event are nested or apart
 pub nested_by : (a b : Range) → ((x : ℕ) → lies a x ≡ true → lies b x ≡ true → Covers a b) → HasEvents a → HasEvents b
-    → AreApart a b ⊎ Covers a b
+    → ShareNoEvent a b ⊎ Covers a b
 nested_by a b covers p q = by (cases_lt a.from b.to) (cases_lt b.from a.to) (cases_lt a.from b.from)
   where
     by : (a.from < b.to) ⊎ (b.to ≤ a.from) → (b.from < a.to) ⊎ (a.to ≤ b.from)
-        → (a.from < b.from) ⊎ (b.from ≤ a.from) → AreApart a b ⊎ Covers a b
+        → (a.from < b.from) ⊎ (b.from ≤ a.from) → ShareNoEvent a b ⊎ Covers a b
     by (inr m) n o = inl (λ e g h. let x = in_lies a e g in let y = in_lies b e h in omega (arith, m, x.0, y.1))
     by (inl m) (inr n) o = inl (λ e g h. let x = in_lies a e g in let y = in_lies b e h in omega (arith, n, x.1, y.0))
     by (inl m) (inl n) (inl o) = inr (covers b.from (lies_in a b.from (omega (arith, o)) n)
@@ -107,7 +107,7 @@ module _ (nodes : List UnitNode) where
   over_more g (here s e) = g
   over_more g (above s e h) = above s e (over_more g h)
 
-  pub over_least : AreBelow nodes → {k u : ℕ} → IsOver nodes k u → k ≤ u
+  pub over_least : StandBehindOwners nodes → {k u : ℕ} → IsOver nodes k u → k ≤ u
   over_least b {k = k} (here s e) = omega arith
   over_least b {k = k} {u = u} (above {d = d} {o = o} s e h) =
       let l = b.each u d o s e in let m = over_least b h in omega (arith, l, m)
@@ -150,7 +150,7 @@ module _ (nodes : List UnitNode) where
       pub long : 0 < length nodes → length ranges + 1 ≡ length nodes
       pub each : (k : ℕ) (r : Range) → Stands ranges k r → IsSpan k r
 
-    pub all_gathered : (n : ℕ) (xs ys : List Range) → length events ≤ n → AreEmpty (length nodes) xs
+    pub all_gathered : (n : ℕ) (xs ys : List Range) → length events ≤ n → AreEmptyRanges (length nodes) xs
         → AllGain (IsAtFirst nodes events n) xs ys → AreSpans ys
     all_gathered n xs ys l empty g = record {
       long = λ some. let h = empty.long some in let e = g.long in omega (arith, h, e);
@@ -168,7 +168,7 @@ module _ (nodes : List UnitNode) where
           );
         }
 
-    module _ (below : AreBelow nodes) (ranges : List Range) (spans : AreSpans ranges) where
+    module _ (below : StandBehindOwners nodes) (ranges : List Range) (spans : AreSpans ranges) where
       -- two units of which both have an event: the one with the lesser number is above the other
       over_of_both : (j k x : ℕ) → j < k → IsOf nodes events j x → IsOf nodes events k x → IsOver nodes j k
       over_of_both j k x l a b =
@@ -185,7 +185,7 @@ module _ (nodes : List UnitNode) where
           covers_by a b more some
 
       nested : (j k : ℕ) (a b : Range) → j < k → IsSpan j a → IsSpan k b → HasEvents a → HasEvents b
-          → AreApart a b ⊎ Covers a b
+          → ShareNoEvent a b ⊎ Covers a b
       nested j k a b l s t p q = nested_by a b (λ x g h. covers j k x a b l s t q g h) p q
 
       pub spans_are_ranges : AreRanges ranges

@@ -15,7 +15,7 @@ use Rattle.hierarchy.proofs.Apart.{units_different}
 use Rattle.hierarchy.proofs.Places.{made_named}
 use Rattle.gate_modules.specs.declared.ranges.Range.{Range}
 use Rattle.module_text.specs.Ranges.{HasEvent, AreRangesOf}
-use Rattle.module_text.specs.Spans.{AreBelow, IsOver, here, above, IsOf}
+use Rattle.module_text.specs.Spans.{StandBehindOwners, IsOver, here, above, IsOf}
 use Rattle.module_text.proofs.DepthFirst.{events_together}
 use Rattle.module_text.proofs.Spanning.{AreSpans}
 
@@ -91,7 +91,7 @@ module _ (m : RootedModel) (units : List UnitPath) (tree : Tree) (is : IsTreeOf 
   owner_of : (u : ℕ) (d : UnitNode) → Stands nodes u d → (w : UnitPath) × Stands units u w × IsOwner units w d.owner
   owner_of u d s = let b = along_back units nodes is.units_are u d s in (b.0, b.1, b.2.owner)
 
-  pub are_below : AreBelow nodes
+  pub are_below : StandBehindOwners nodes
   are_below = record {
     each = λ u d o s e. go u o (owner_of u d s).0 (owner_of u d s).1
         (owned units (owner_of u d s).0 d.owner o (owner_of u d s).2 e);

@@ -79,12 +79,12 @@ IsInside p (AUnit u) = Unit {0}
 IsInside p (AWay w) = w.n < length p.ways.items
 
 -- the same of all pieces
-pub record AreInside (p : GtsParts) (pieces : List Piece) : Type 0 where
+pub record ArePiecesOf (p : GtsParts) (pieces : List Piece) : Type 0 where
   pub each : (x : Piece) → IsOneOf pieces x → IsInside p x
 
 -- the same of all lines
 pub record LinesInside (p : GtsParts) (lines : List Line) : Type 0 where
-  pub each : (l : Line) → IsOneOf lines l → AreInside p l.pieces.items
+  pub each : (l : Line) → IsOneOf lines l → ArePiecesOf p l.pieces.items
 
 -- the same of all groups
 pub record GroupsInside (p : GtsParts) (groups : List Group) : Type 0 where

@@ -8,7 +8,7 @@ use Rattle.gate_modules.specs.Modules.{lies}
 use Rattle.gate_modules.specs.declared.ranges.Range.{Range}
 
 -- each unit has a greater number than the unit above it
-pub record AreBelow (nodes : List UnitNode) : Type 0 where
+pub record StandBehindOwners (nodes : List UnitNode) : Type 0 where
   pub each : (u : ℕ) (d : UnitNode) (o : UnitId) → Stands nodes u d → d.owner ≡ Some o → o.n < u
 
 -- unit number k has a unit above it, and is number u or above it
@@ -58,7 +58,7 @@ pub record IsEmpty (k : ℕ) (r : Range) : Type 0 where
   pub to : r.to ≡ 0
 
 -- ranges without events of this number of units, but for the first of them
-pub record AreEmpty (count : ℕ) (ranges : List Range) : Type 0 where
+pub record AreEmptyRanges (count : ℕ) (ranges : List Range) : Type 0 where
   pub long : 0 < count → length ranges + 1 ≡ count
   pub each : (k : ℕ) (r : Range) → Stands ranges k r → IsEmpty k r
 

@@ -3,7 +3,7 @@
 ghost use Rattle.std.specs.Prelude.{◌≡◌, ◌↔◌, ◌≤◌, ◌++◌, ◌∷◌, ℕ, List, [], length, IfOk, OnOk};
 ghost use Rattle.ar_base.specs.Lists.{IsOneOf};
 ghost use Rattle.ar_base.specs.Sets.{Ascends};
-ghost use Rattle.cut_text.specs.Printed.{edges_of};
+ghost use Rattle.cut_text.specs.Printed.{forest_edges};
 ghost use Rattle.flow_blocks.specs.Bits.{row_of};
 ghost use Rattle.gate_modules.specs.ShortenedInside.{event_numbers};
 ghost use Rattle.mode_trees.specs.declared.forests.Edge.{Edge as TheEdge};
@@ -22,7 +22,7 @@ pub(crate) struct EdgePlaces {
 
 /// The edges of a forest with their places.
 pub(crate) fn edge_places(alloc: Global, forest: &Forest) -> Result<EdgePlaces, Memory>
-    ensures { IfOk result (λ table. ArePlacesOf (edges_of forest.now.trees.items) table) }
+    ensures { IfOk result (λ table. ArePlacesOf (forest_edges forest.now.trees.items) table) }
 {
     let mut table = EdgePlaces {
         ways: Vec::new(alloc),

@@ -2,11 +2,11 @@
 
 ghost use Rattle.std.specs.Prelude.{true, false, codes, map};
 ghost use Rattle.ar_base.specs.Texts.{separated, text_at};
-ghost use Rattle.ar_io.specs.WritingInside.{Writes};
+ghost use Rattle.ar_io.specs.Handing.{Writes};
 ghost use Rattle.cut_text.specs.Answers.{Prints};
 ghost use Rattle.mode_trees.specs.Ways.{OwnTheirWays};
 ghost use Rattle.module_text.specs.Arranged.{piece_text, line_text, part_lines as texts_of_parts};
-ghost use Rattle.module_text.specs.Arranged.{groups_lines, form_lines as texts_of_forms, IsInside, AreInside};
+ghost use Rattle.module_text.specs.Arranged.{groups_lines, form_lines as texts_of_forms, IsInside, ArePiecesOf};
 ghost use Rattle.module_text.specs.Arranged.{LinesInside, GroupsInside};
 ghost use Rattle.module_text.specs.Printed.{short_lines};
 ghost use Rattle.module_text.specs.Texts.{module_line, unit_mark, lines_line};
@@ -104,7 +104,7 @@ fn last<K: Sink>(out: &mut K, n: usize) -> Result<(), SinkFailed>
 
 // What stands in a line, in braces.
 fn between_braces<K: Sink>(out: &mut K, gts: &Gts, line: &Line) -> Result<(), SinkFailed>
-    requires { AreInside gts.now line.now.pieces.items }
+    requires { ArePiecesOf gts.now line.now.pieces.items }
     ensures { Writes (K.state out.old) (K.state out.new) (line_text gts.now line.now) result }
 {
     write_text(out, "{")?;
@@ -114,7 +114,7 @@ fn between_braces<K: Sink>(out: &mut K, gts: &Gts, line: &Line) -> Result<(), Si
 
 // Pieces, with commas between them.
 fn pieces<K: Sink>(out: &mut K, gts: &Gts, pieces: &[Piece]) -> Result<(), SinkFailed>
-    requires { AreInside gts.now pieces.now }
+    requires { ArePiecesOf gts.now pieces.now }
     ensures { Writes (K.state out.old) (K.state out.new)
         (separated true (codes ", ") (map (piece_text gts.now) pieces.now)) result }
 {
@@ -127,7 +127,7 @@ fn pieces<K: Sink>(out: &mut K, gts: &Gts, pieces: &[Piece]) -> Result<(), SinkF
 
 // Further pieces.
 fn more_pieces<K: Sink>(out: &mut K, gts: &Gts, pieces: &[Piece]) -> Result<(), SinkFailed>
-    requires { AreInside gts.now pieces.now }
+    requires { ArePiecesOf gts.now pieces.now }
     ensures { Writes (K.state out.old) (K.state out.new)
         (separated false (codes ", ") (map (piece_text gts.now) pieces.now)) result }
 {

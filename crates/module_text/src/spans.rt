@@ -9,7 +9,7 @@ ghost use Rattle.hierarchy.specs.Units.{UnitPath};
 ghost use Rattle.gate_modules.specs.ModulesInside.{AreRanges};
 ghost use Rattle.gate_modules.specs.declared.ranges.Range.{Range};
 ghost use Rattle.module_text.specs.Ranges.{AreRangesOf};
-ghost use Rattle.module_text.specs.Spans.{AreBelow, AreEmpty, Gains, AllGain, IsAt, IsAtOver, ReachesTo, AllReach};
+ghost use Rattle.module_text.specs.Spans.{StandBehindOwners, AreEmptyRanges, Gains, AllGain, IsAt, IsAtOver, ReachesTo, AllReach};
 
 use ar_base::{Memory, UnitId};
 use gate_modules::Range;
@@ -34,7 +34,7 @@ pub fn ranges(alloc: Global, tree: &Tree) -> Result<Vec<Range>, Memory>
 // Ranges without events of the units but the main block, which is the first of them.
 fn empty_ranges(alloc: Global, units: &[UnitNode]) -> Result<Vec<Range>, Memory>
     requires { length units.now < 2 ^ 32 }
-    ensures { IfOk result (λ ranges. AreEmpty (length units.now) ranges.items) }
+    ensures { IfOk result (λ ranges. AreEmptyRanges (length units.now) ranges.items) }
 {
     let mut ranges = Vec::new(alloc);
     for number in 1..units.len() as u32 {
@@ -49,7 +49,7 @@ fn empty_ranges(alloc: Global, units: &[UnitNode]) -> Result<Vec<Range>, Memory>
 
 // Adds an event of this unit to the ranges of the unit and of those above it but the main block. Takes no memory.
 fn add_event(units: &[UnitNode], unit: UnitId, event: u32, ranges: &mut [Range])
-    requires owners { AreBelow units.now }
+    requires owners { StandBehindOwners units.now }
     requires small { event + 1 < 2 ^ 32 }
     requires known { unit.n < length units.now }
     requires room { length ranges.old + 1 ≡ length units.now }

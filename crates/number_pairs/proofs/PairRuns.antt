@@ -7,13 +7,13 @@ use Rattle.std.specs.List.Sorted.{IsPartitionPoint}
 use Rattle.ar_base.specs.Lists.{Stands, IsOneOf}
 use Rattle.ar_base.proofs.Standing.{stands_within, stands_some, stands_get, stands_split, stands_none, one_contains, contains_one}
 use Rattle.ar_base.proofs.Comparing.{side}
-use Rattle.number_pairs.specs.Starts.{IsStart}
+use Rattle.number_pairs.specs.Starts.{IsPairStart}
 
 abbrev Pair : Type 0
 Pair = ℕ × ℕ
 
 -- what stands between the starts of a first and of the one after it
-module _ (pairs : List Pair) (x from to : ℕ) (low : IsStart pairs x from) (high : IsStart pairs (x + 1) to) where
+module _ (pairs : List Pair) (x from to : ℕ) (low : IsPairStart pairs x from) (high : IsPairStart pairs (x + 1) to) where
   pub from_to : from ≤ to
   from_to = elim (side from to) [
     | inl h ↦ h
@@ -89,7 +89,7 @@ module _ (pairs : List Pair) (x from to : ℕ) (low : IsStart pairs x from) (hig
 -- where the pairs of lesser firsts end
 pub is_start : (pairs : List Pair) (x i : ℕ)
     → IsPartitionPoint (λ (r : Pair). ltb r.0 x ≡ true) (λ (r : Pair). ltb r.0 x ≡ false) pairs i → i ≤ length pairs
-    → IsStart pairs x i
+    → IsPairStart pairs x i
 is_start pairs x i point bound = record { within = bound; before = λ k r s. (on k r s, back k r s) }
   where
     at : (k : ℕ) (r : Pair) → Stands pairs k r → get_or pairs k r ≡ r
@@ -111,13 +111,13 @@ is_start pairs x i point bound = record { within = bound; before = λ k r s. (on
 -- the starts of the first so many firsts
 pub record AreStarts (pairs : List Pair) (count : ℕ) (starts : List ℕ) : Type 0 where
   pub long : length starts ≡ count
-  pub each : (x start : ℕ) → Stands starts x start → IsStart pairs x start
+  pub each : (x start : ℕ) → Stands starts x start → IsPairStart pairs x start
 
 pub starts_start : (pairs : List Pair) → AreStarts pairs 0 []
 starts_start pairs = record { long = refl; each = λ x start s. absurd (stands_none x start s) }
 
 pub starts_more : (pairs : List Pair) (count start : ℕ) (old new : List ℕ) → new ≡ old ++ start ∷ []
-    → IsStart pairs count start → AreStarts pairs count old → AreStarts pairs (count + 1) new
+    → IsPairStart pairs count start → AreStarts pairs count old → AreStarts pairs (count + 1) new
 starts_more pairs count start old new e is before =
     subst (λ (z : List ℕ). AreStarts pairs (count + 1) z) (sym e) (record {
       long = (let l = length-append old (start ∷ []) in omega (arith, l, before.long));
@@ -125,9 +125,9 @@ starts_more pairs count start old new e is before =
           [ inl h ↦ before.each x s h | inr h ↦ here x s h.0 h.1 h.2 ];
     })
   where
-    here : (x s k : ℕ) → x ≡ length old + k → Stands (start ∷ []) k s → IsStart pairs x s
+    here : (x s k : ℕ) → x ≡ length old + k → Stands (start ∷ []) k s → IsPairStart pairs x s
     here x s zero p q =
         let a : start ≡ s = cc in
         let b : count ≡ x = omega (arith, p, before.long) in
-        subst (λ (z : ℕ). IsStart pairs z s) b (subst (λ (z : ℕ). IsStart pairs count z) a is)
+        subst (λ (z : ℕ). IsPairStart pairs z s) b (subst (λ (z : ℕ). IsPairStart pairs count z) a is)
     here x s (suc k) p q = absurd (stands_none k s q)

@@ -3,7 +3,7 @@
 ghost use Rattle.std.specs.Prelude.{◌≡◌, ◌+◌, ◌<◌, ◌≤◌, ℕ, length, IfOk, IsPermutation};
 ghost use Rattle.std.specs.List.Sorted.{IsNonDecreasingBy};
 ghost use Rattle.ar_base.specs.Lists.{IsOneOf, Stands};
-ghost use Rattle.number_pairs.specs.Starts.{IsStart, AreRuns};
+ghost use Rattle.number_pairs.specs.Starts.{IsPairStart, ArePairStarts};
 
 use ar_base::Memory;
 use std::alloc::Global;
@@ -16,7 +16,7 @@ pub struct IndexedPairs {
     /// For each number up to the greatest first the place where its pairs begin, and last the number of pairs: the pairs of a
     /// first end where those of the next number begin.
     pub starts: Vec<usize>,
-    ghost runs: { AreRuns pairs.items starts.items },
+    ghost runs: { ArePairStarts pairs.items starts.items },
 }
 
 /// The pairs in the order of their firsts, each as often as it is given. The error is want of memory.
@@ -46,7 +46,7 @@ fn starts_of(alloc: Global, pairs: &[(u32, u32)], count: usize) -> Result<Vec<us
     requires { IsNonDecreasingBy (λ q. q.0) pairs.now }
     ensures long { IfOk result (λ starts. length starts.items ≡ count) }
     ensures each { IfOk result (λ starts. (x start : ℕ) → Stands starts.items x start
-        → IsStart pairs.now x start) }
+        → IsPairStart pairs.now x start) }
 {
     let mut starts = Vec::new(alloc);
     for first in 0..count {
@@ -58,7 +58,7 @@ fn starts_of(alloc: Global, pairs: &[(u32, u32)], count: usize) -> Result<Vec<us
 // How many pairs have a lesser first.
 pub(crate) fn start_of(pairs: &[(u32, u32)], first: usize) -> usize
     requires { IsNonDecreasingBy (λ q. q.0) pairs.now }
-    ensures { IsStart pairs.now first result }
+    ensures { IsPairStart pairs.now first result }
 {
     pairs.partition_point(|q| (q.0 as usize) < first)
 }

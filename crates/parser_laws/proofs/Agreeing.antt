@@ -8,13 +8,13 @@ use Rattle.ar_lexer.specs.declared.token.TokenKind.{TokenKind}
 use Rattle.ar_lexer.proofs.NumberLemmas.{cons_head}
 use Rattle.expression_grammar.specs.declared.lexeme.Lexeme.{Lexeme}
 use Rattle.expression_grammar.specs.Words.{Form, Tokens, kind_or, token, ◌▸◌, nothing, each, separated_by, groups, concat, standing, StandsAt}
-use Rattle.expression_grammar.specs.Results.{kind_at, anything}
+use Rattle.expression_grammar.specs.Results.{first_token_kind, anything}
 use Rattle.expression_grammar.proofs.Finding.{kind_before, kind_join, token_kind}
 
 -- Both texts have these forms and end where they may: then R holds, and they have the same tokens.
 pub record Agree (ends : TokenKind → Bool) (A B : Form) (R : Type 0) : Type 0 where
-  pub holds : (a b rest rest' : Tokens) → A (kind_at rest) a → B (kind_at rest') b → a ++ rest ≡ b ++ rest'
-      → ends (kind_at rest) ≡ true → ends (kind_at rest') ≡ true → R × (a ≡ b)
+  pub holds : (a b rest rest' : Tokens) → A (first_token_kind rest) a → B (first_token_kind rest') b → a ++ rest ≡ b ++ rest'
+      → ends (first_token_kind rest) ≡ true → ends (first_token_kind rest') ≡ true → R × (a ≡ b)
 
 -- where what follows passes the one test, the first token passes the other
 pub record First (A : Form) (ends test : TokenKind → Bool) : Type 0 where
@@ -65,8 +65,8 @@ not_both p true f e = absurd (f e refl)
 not_both p false f e = refl
 
 -- the texts begin with one token
-pub meet : (a b rest rest' : Tokens) → a ++ rest ≡ b ++ rest' → kind_or (kind_at rest) a ≡ kind_or (kind_at rest') b
-meet a b rest rest' e = sym (kind_before a rest) ∙ ap kind_at e ∙ kind_before b rest'
+pub meet : (a b rest rest' : Tokens) → a ++ rest ≡ b ++ rest' → kind_or (first_token_kind rest) a ≡ kind_or (first_token_kind rest') b
+meet a b rest rest' e = sym (kind_before a rest) ∙ ap first_token_kind e ∙ kind_before b rest'
 
 -- Agreement
 
@@ -81,8 +81,8 @@ module _ {ends : TokenKind → Bool} {A B : Form} where
   pub agree_ended : {R : Type 0} {ends' : TokenKind → Bool} → Agree ends A B R
       → ((k : TokenKind) → ends' k ≡ true → ends k ≡ true) → Agree ends' A B R
   agree_ended f w = record {
-    holds = λ a b rest rest' h k e s s'. f.holds a b rest rest' h k e (w (kind_at rest) s)
-        (w (kind_at rest') s');
+    holds = λ a b rest rest' h k e s s'. f.holds a b rest rest' h k e (w (first_token_kind rest) s)
+        (w (first_token_kind rest') s');
   }
 
   -- the forms may be told in another way
@@ -90,8 +90,8 @@ module _ {ends : TokenKind → Bool} {A B : Form} where
       → ((next : TokenKind) (ts : Tokens) → A' next ts → A next ts)
       → ((next : TokenKind) (ts : Tokens) → B' next ts → B next ts) → Agree ends A' B' R
   agree_told f to to' = record {
-    holds = λ a b rest rest' h k e s s'. f.holds a b rest rest' (to (kind_at rest) a h)
-        (to' (kind_at rest') b k) e s s';
+    holds = λ a b rest rest' h k e s s'. f.holds a b rest rest' (to (first_token_kind rest) a h)
+        (to' (first_token_kind rest') b k) e s s';
   }
 
   -- what holds at each number
@@ -106,10 +106,10 @@ module _ {ends : TokenKind → Bool} {A B : Form} where
       → ((k : TokenKind) → test k ≡ true → test' k ≡ true → ⊥) → Agree ends A B R
   agree_apart {test = test} f g clash = record {
     holds = λ a b rest rest' h k e s s'.
-        let same : kind_or (kind_at rest) a ≡ kind_or (kind_at rest') b =
-        sym (kind_before a rest) ∙ ap kind_at e ∙ kind_before b rest' in
-        absurd (clash (kind_or (kind_at rest') b) (ap test (sym same) ∙ f.holds (kind_at rest) a h s)
-        (g.holds (kind_at rest') b k s'));
+        let same : kind_or (first_token_kind rest) a ≡ kind_or (first_token_kind rest') b =
+        sym (kind_before a rest) ∙ ap first_token_kind e ∙ kind_before b rest' in
+        absurd (clash (kind_or (first_token_kind rest') b) (ap test (sym same) ∙ f.holds (first_token_kind rest) a h s)
+        (g.holds (first_token_kind rest') b k s'));
   }
 
 pub agree_token : {k l : TokenKind} {ends : TokenKind → Bool} → Agree ends (token k) (token l) (k ≡ l)
@@ -132,16 +132,16 @@ pub agree_then : {ends ends' : TokenKind → Bool} {A A' B B' : Form} {R S : Typ
     → First B ends' ends → First B' ends' ends → Agree ends' B B' S → Agree ends' (A ▸ B) (A' ▸ B') (R × S)
 agree_then {ends} {ends'} {A} {A'} {B} {B'} {R} {S} f first first' g = record {
   holds = λ a b rest rest' h k e s s'.
-      let there : kind_or (kind_at rest) h.back ≡ kind_at (h.back ++ rest) = sym (kind_before h.back rest) in
-      let there' : kind_or (kind_at rest') k.back ≡ kind_at (k.back ++ rest') = sym (kind_before k.back rest') in
+      let there : kind_or (first_token_kind rest) h.back ≡ first_token_kind (h.back ++ rest) = sym (kind_before h.back rest) in
+      let there' : kind_or (first_token_kind rest') k.back ≡ first_token_kind (k.back ++ rest') = sym (kind_before k.back rest') in
       let whole : h.front ++ (h.back ++ rest) ≡ k.front ++ (k.back ++ rest') =
       sym (append_assoc h.front h.back rest) ∙ sym (ap (λ (t : Tokens). t ++ rest) h.split) ∙ e
       ∙ ap (λ (t : Tokens). t ++ rest') k.split ∙ append_assoc k.front k.back rest' in
       let r = f.holds h.front k.front (h.back ++ rest) (k.back ++ rest')
       (subst (λ (n : TokenKind). A n h.front) there h.first)
       (subst (λ (n : TokenKind). A' n k.front) there' k.first) whole
-      (sym (ap ends there) ∙ first.holds (kind_at rest) h.back h.second s)
-      (sym (ap ends there') ∙ first'.holds (kind_at rest') k.back k.second s') in
+      (sym (ap ends there) ∙ first.holds (first_token_kind rest) h.back h.second s)
+      (sym (ap ends there') ∙ first'.holds (first_token_kind rest') k.back k.second s') in
       let left : h.back ++ rest ≡ k.back ++ rest' =
       append_cancel_left h.front (h.back ++ rest) (k.back ++ rest')
       (whole ∙ ap (λ (t : Tokens). t ++ (k.back ++ rest')) (sym r.1)) in

@@ -27,12 +27,12 @@ use Rattle.parser_laws.specs.Expressions as agree
 use Rattle.parser_laws.specs.Members.{SameMemberBy, SameMemberToDepth, SameMember}
 use Rattle.parser_laws.specs.Members as agree_member
 use Rattle.parser_laws.specs.Models.{SameDomain, symbols, range, SameItem, domains, classes, blocks, SameModel}
-use Rattle.parser_laws.specs.Opened.{InstrForm, SameStep, SameKind, SameBody, SameItemForm, SameModelForm}
+use Rattle.parser_laws.specs.Opened.{OpenedInstr, SameStep, SameKind, SameBody, SameItemForm, SameModelForm}
 use Rattle.parser_laws.proofs.Agreeing.{along_map}
 
 -- Instructions
 
-step_rolled : (i : Instr) (x : InstrForm) → out-Instr i ≡ x → i ≡ roll-Instr x
+step_rolled : (i : Instr) (x : OpenedInstr) → out-Instr i ≡ x → i ≡ roll-Instr x
 step_rolled i x e = sym (roll-out-Instr i) ∙ ap roll-Instr e
 
 step-skip : (i : Instr) → out-Instr i ≡ open_instr.Skip → i ≡ instr.Skip
@@ -63,7 +63,7 @@ module _ (d : ℕ) where
   branches_of (Some x) None h = h
   branches_of (Some x) (Some y) h = h d
 
-  steps_of : (i j : Instr) (x y : InstrForm) → out-Instr i ≡ x → out-Instr j ≡ y → SameStep x y
+  steps_of : (i j : Instr) (x y : OpenedInstr) → out-Instr i ≡ x → out-Instr j ≡ y → SameStep x y
       → SameSteps (SameStepsToDepth d) i j
   steps_of i j open_instr.Skip open_instr.Skip p q s = agree.equal (step-skip i p ∙ sym (step-skip j q))
   steps_of i j (open_instr.Assign x e) (open_instr.Assign y f) p q s =

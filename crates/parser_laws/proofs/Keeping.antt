@@ -20,7 +20,7 @@ use Rattle.expression_grammar.specs.Expressions as tree
 use Rattle.expression_grammar.specs.Expressions.{Node, OneOrMore, ReadsProduct, ReadsTerm, ReadsTerms, ReadsSum, ReadsCompare, ReadsNegation, ReadsAnd, ReadsOr, ReadsIf, ReadsChoice, ReadsCase, ReadsSwitch, ReadsOperands, ReadsPrimary, ReadsMinusOf, ReadsExpr, ReadsNot, ReadsMinus}
 use Rattle.expression_grammar.proofs.ExpressionForms.{then_some, token_some}
 use Rattle.ar_grammar.proofs.MemberParts.{name_some}
-use Rattle.parser_laws.specs.Expressions.{Listed, all, any, product, least, greatest, count, form_of}
+use Rattle.parser_laws.specs.Expressions.{ListedForm, all, any, product, least, greatest, count, listed_form}
 use Rattle.parser_laws.specs.Keeps as keeps
 use Rattle.parser_laws.specs.Keeps.{IsListOf, IsNameIn, PathKeeps, FormKeeps, ExprKeepsTo, ExprKeeps}
 use Rattle.std.specs.Prelude.{Box}
@@ -239,8 +239,8 @@ module _ (names room : ℕ) where
     keeps_nodes separator xs d = keeps_list separator (Node Is) (ExprKeepsTo names room d) (some_node Is)
         (λ x next ts h f. keeps_node Is k x next ts h f d) xs
 
-    keeps_chain : (l : Listed) (separator : TokenKind) (f : RawForm)
-        → Keeps (OneOrMore (form_of l) separator Is f) (FormOk f)
+    keeps_chain : (l : ListedForm) (separator : TokenKind) (f : RawForm)
+        → Keeps (OneOrMore (listed_form l) separator Is f) (FormOk f)
     keeps_chain l separator f next ts (tree.one h) fine = k f next ts h fine
     keeps_chain l separator f next ts (tree.more v e several h) fine =
         λ d. keeps.listed l v e (keeps_nodes separator v.items d next ts h fine)

@@ -24,7 +24,7 @@ use Rattle.expression_grammar.specs.Paths.{ReadsPlacedName, ReadsPath}
 use Rattle.expression_grammar.specs.Expressions.{Node, ReadsExpr}
 use Rattle.ar_grammar.specs.Members.{ReadsTypeForm, ReadsType, ReadsEvent, ReadsDeclared, ReadsTransition, ReadsAssertion, ReadsSection, ReadsHidden, ReadsUnit, ReadsSingle, extends, boolean, clones, embeds, kept_value, parameter, observer, ReadsKeyed, single, block, event, hide, ReadsMember, keyed, named, ReadsLater, ReadsSections, some, ReadsBodyOf, ReadsBody, kept}
 use Rattle.ar_grammar.specs.Members as grammar
-use Rattle.expression_grammar.specs.Results.{kind_at, anything, is_word, ends_path}
+use Rattle.expression_grammar.specs.Results.{first_token_kind, anything, is_word, ends_path}
 use Rattle.ar_grammar.specs.Results.{ends_attribute, ends_semicolon, ends_body, ends_members, ends_section, begins_instr, begins_keyed, begins_section, begins_later}
 use Rattle.expression_grammar.proofs.Finding.{fails, token_kind, then_kind, kind_join}
 use Rattle.expression_grammar.proofs.ExpressionForms.{sign_from, word_from}
@@ -117,8 +117,8 @@ kept_apart n x y s t e =
     (first_front (first_token refl)) (first_front (type_first t)) (λ k p q. not_true (is_word words.REAL k) q p)))
     (λ r. r.1)
 
-single_case : (n : ℕ) (m m' : Member) (a b rest rest' : Tokens) (h : ReadsSingle n m (kind_at rest) a)
-    (k : ReadsSingle n m' (kind_at rest') b) → a ++ rest ≡ b ++ rest' → word_of h ≡ word_of k
+single_case : (n : ℕ) (m m' : Member) (a b rest rest' : Tokens) (h : ReadsSingle n m (first_token_kind rest) a)
+    (k : ReadsSingle n m' (first_token_kind rest') b) → a ++ rest ≡ b ++ rest' → word_of h ≡ word_of k
     → SameMember m m' × (a ≡ b)
 single_case n m m' a b rest rest' (extends name at u h) (extends name' at' u' k) e t =
     let r = (agree_between {ends = anything} {ends' = anything} (agree_placed (name, at) (name', at')) refl).holds a b
@@ -241,8 +241,8 @@ module _ (n : ℕ) {Body : List Member → Form} (o : OneBody Body) where
   semicolon_path : (k : TokenKind) → ends_semicolon k ≡ true → ends_path k ≡ true
   semicolon_path k h = ap ends_path (sign_from SEMICOLON k h)
 
-  keyed_case : (xs ys : List Member) (a b rest rest' : Tokens) (h : ReadsKeyed n Body xs (kind_at rest) a)
-      (k : ReadsKeyed n Body ys (kind_at rest') b) → a ++ rest ≡ b ++ rest' → keyed_tag h ≡ keyed_tag k
+  keyed_case : (xs ys : List Member) (a b rest rest' : Tokens) (h : ReadsKeyed n Body xs (first_token_kind rest) a)
+      (k : ReadsKeyed n Body ys (first_token_kind rest') b) → a ++ rest ≡ b ++ rest' → keyed_tag h ≡ keyed_tag k
       → Along SameMember xs ys × (a ≡ b)
   keyed_case xs ys a b rest rest' (single m u h) (single m' u' k) e t =
       let r = (agree_single n m m').holds a b rest rest' h k e refl refl in (along_single u u' r.0, r.1)
@@ -269,14 +269,14 @@ module _ (n : ℕ) {Body : List Member → Form} (o : OneBody Body) where
 
   -- Members
 
-  member_case : (xs ys : List Member) (a b rest rest' : Tokens) → ReadsMember n Body xs (kind_at rest) a
-      → ReadsMember n Body ys (kind_at rest') b → a ++ rest ≡ b ++ rest' → Along SameMember xs ys × (a ≡ b)
+  member_case : (xs ys : List Member) (a b rest rest' : Tokens) → ReadsMember n Body xs (first_token_kind rest) a
+      → ReadsMember n Body ys (first_token_kind rest') b → a ++ rest ≡ b ++ rest' → Along SameMember xs ys × (a ≡ b)
   member_case xs ys a b rest rest' (keyed h) (keyed k) e = (agree_keyed xs ys).holds a b rest rest' h k e refl refl
   member_case xs ys a b rest rest' (keyed h) (named m u k id i) e =
-      fails begins_keyed ((first_keyed xs).holds (kind_at rest) a h refl) (meet a b rest rest' e ∙ named_kind k id i)
+      fails begins_keyed ((first_keyed xs).holds (first_token_kind rest) a h refl) (meet a b rest rest' e ∙ named_kind k id i)
       refl
   member_case xs ys a b rest rest' (named m u h id i) (keyed k) e =
-      fails begins_keyed ((first_keyed ys).holds (kind_at rest') b k refl)
+      fails begins_keyed ((first_keyed ys).holds (first_token_kind rest') b k refl)
       (meet b a rest' rest (sym e) ∙ named_kind h id i) refl
   member_case xs ys a b rest rest' (named m u h id i) (named m' u' k id' i') e =
       let r = (agree_declared n m m').holds a b rest rest' h k e refl refl in (along_single u u' r.0, r.1)
@@ -301,9 +301,9 @@ module _ (n : ℕ) {Body : List Member → Form} (o : OneBody Body) where
       by_case next ts (grammar.local name at g i u h) =
           (first_front {ends = anything} (placed_first (other ends_section) refl (name, at))).holds next ts h refl
 
-  section_case : (xs ys : List Member) (a b rest rest' : Tokens) → ReadsSection n xs (kind_at rest) a
-      → ReadsSection n ys (kind_at rest') b → a ++ rest ≡ b ++ rest' → ends_section (kind_at rest) ≡ true
-      → ends_section (kind_at rest') ≡ true → Along SameMember xs ys × (a ≡ b)
+  section_case : (xs ys : List Member) (a b rest rest' : Tokens) → ReadsSection n xs (first_token_kind rest) a
+      → ReadsSection n ys (first_token_kind rest') b → a ++ rest ≡ b ++ rest' → ends_section (first_token_kind rest) ≡ true
+      → ends_section (first_token_kind rest') ≡ true → Along SameMember xs ys × (a ≡ b)
   section_case xs ys a b rest rest' (inl h) (inl k) e s s' =
       let r = (agree_next (agree_token {ends = anything})
       (agree_each {ends = anything} {ends' = ends_section} (agree_transition n)
@@ -337,9 +337,9 @@ module _ (n : ℕ) {Body : List Member → Form} (o : OneBody Body) where
   first_section : {ends : TokenKind → Bool} (xs : List Member) → First (ReadsSection n xs) ends begins_section
   first_section xs = record { holds = λ next ts h s. section_first n next ts (xs, h) }
 
-  later_case : (xs ys : List Member) (a b rest rest' : Tokens) → ReadsLater n Body xs (kind_at rest) a
-      → ReadsLater n Body ys (kind_at rest') b → a ++ rest ≡ b ++ rest' → ends_section (kind_at rest) ≡ true
-      → ends_section (kind_at rest') ≡ true → Along SameMember xs ys × (a ≡ b)
+  later_case : (xs ys : List Member) (a b rest rest' : Tokens) → ReadsLater n Body xs (first_token_kind rest) a
+      → ReadsLater n Body ys (first_token_kind rest') b → a ++ rest ≡ b ++ rest' → ends_section (first_token_kind rest) ≡ true
+      → ends_section (first_token_kind rest') ≡ true → Along SameMember xs ys × (a ≡ b)
   later_case xs ys a b rest rest' (inl h) (inl k) e s s' = (agree_section xs ys).holds a b rest rest' h k e s s'
   later_case xs ys a b rest rest' (inl h) (inr k) e s s' =
       (agree_apart (first_section {ends = anything} xs) (first_keyed ys) section_keyed).holds a b rest rest' h k e refl
@@ -371,9 +371,9 @@ module _ (n : ℕ) {Body : List Member → Form} (o : OneBody Body) where
   groups_first : (ys : List Member) → First (groups (ReadsLater n Body) ys) ends_body ends_section
   groups_first ys = record { holds = λ next ts h s. (first_each later_fits body_section h.parts).holds next ts h.are s }
 
-  sections_case : (xs ys : List Member) (a b rest rest' : Tokens) → ReadsSections n Body xs (kind_at rest) a
-      → ReadsSections n Body ys (kind_at rest') b → a ++ rest ≡ b ++ rest' → ends_body (kind_at rest) ≡ true
-      → ends_body (kind_at rest') ≡ true → Along SameMember xs ys × (a ≡ b)
+  sections_case : (xs ys : List Member) (a b rest rest' : Tokens) → ReadsSections n Body xs (first_token_kind rest) a
+      → ReadsSections n Body ys (first_token_kind rest') b → a ++ rest ≡ b ++ rest' → ends_body (first_token_kind rest) ≡ true
+      → ends_body (first_token_kind rest') ≡ true → Along SameMember xs ys × (a ≡ b)
   sections_case xs ys a b rest rest' (grammar.none u h) (grammar.none u' k) e s s' = (
     subst (λ (zs : List Member). Along SameMember zs ys) (sym u)
         (subst (λ (zs : List Member). Along SameMember [] zs) (sym u') none),

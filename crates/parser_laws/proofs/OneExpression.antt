@@ -17,12 +17,12 @@ use Rattle.ar_syntax.specs.declared.expressions.RawRelation.{RawRelation}
 use Rattle.ar_syntax.specs.declared.expressions.RawRelation.TheVariants as relation
 use Rattle.expression_grammar.specs.Words.{Form, Tokens, kind_or, token, ◌▸◌, separated_by, between, StandsAt, IsSpanOf}
 use Rattle.expression_grammar.specs.Expressions.{Node, OneOrMore, one, more, ReadsProduct, ReadsTerm, ReadsTerms, ReadsSum, ReadsCompare, two, sign_of, ReadsNegation, negated, plain, ReadsAnd, ReadsOr, ReadsChoice, choice, ReadsCase, ReadsSwitch, ReadsOperands, ReadsPrimary, truth, falsehood, whole, real, path, brackets, least, greatest, count, switch, ReadsMinusOf, ReadsExpr, ReadsNot, ReadsMinus}
-use Rattle.expression_grammar.specs.Results.{kind_at, anything, is_sign, is_word, begins_minus, begins_not, begins_primary, ends_path, ends_product, ends_sum, ends_not, ends_and, ends_expr, ends_list, ends_cases}
+use Rattle.expression_grammar.specs.Results.{first_token_kind, anything, is_sign, is_word, begins_minus, begins_not, begins_primary, ends_path, ends_product, ends_sum, ends_not, ends_and, ends_expr, ends_list, ends_cases}
 use Rattle.expression_grammar.proofs.Finding.{fails, kind_before, token_kind, then_kind}
 use Rattle.expression_grammar.proofs.ExpressionForms.{then_map, and_left, sign_from, word_from}
 use Rattle.ar_grammar.proofs.ExpressionForms.{path_first, primary_first, compare_first, or_first}
 use Rattle.expression_grammar.proofs.ExpressionParts.{relation_ends}
-use Rattle.parser_laws.specs.Expressions.{SamePath, Listed, form_of, SameParts, SameToDepth}
+use Rattle.parser_laws.specs.Expressions.{SamePath, ListedForm, listed_form, SameParts, SameToDepth}
 use Rattle.parser_laws.specs.Expressions as same
 use Rattle.parser_laws.proofs.Agreeing.{Agree, First, agree_all, other, first_token, first_front, first_nothing, first_each, agree_map, agree_turned, agree_ended, agree_told, agree_apart, agree_token, agree_then, agree_next, agree_closed, with_nothing, agree_each, agree_separated}
 use Rattle.parser_laws.proofs.OnePath.{agree_path}
@@ -70,7 +70,7 @@ agree_node o (suc d) e g = record {
 
 -- Chains
 
-module _ {ends ends' : TokenKind → Bool} {Is : RawForm → Form} (k : Listed) (separator : TokenKind)
+module _ {ends ends' : TokenKind → Bool} {Is : RawForm → Form} (k : ListedForm) (separator : TokenKind)
     (o : OneForm ends Is) (e : ends separator ≡ true) (e' : ends' separator ≡ false)
     (w : (k : TokenKind) → ends' k ≡ true → ends k ≡ true) where
   -- one operand is not several
@@ -84,9 +84,9 @@ module _ {ends ends' : TokenKind → Bool} {Is : RawForm → Form} (k : Listed) 
       (first_front (first_front (first_token (ap not e')))) (λ k p q. not_true (ends' k) q p))) (λ r. r.1))
       with_nothing (λ next ts h. then_map h (λ next ts g. g.form) (λ next ts g. g))
 
-  chain_case : (d : ℕ) (f g : RawForm) (a b rest rest' : Tokens) → OneOrMore (form_of k) separator Is f (kind_at rest) a
-      → OneOrMore (form_of k) separator Is g (kind_at rest') b → a ++ rest ≡ b ++ rest' → ends' (kind_at rest) ≡ true
-      → ends' (kind_at rest') ≡ true → SameParts (SameToDepth d) f g × (a ≡ b)
+  chain_case : (d : ℕ) (f g : RawForm) (a b rest rest' : Tokens) → OneOrMore (listed_form k) separator Is f (first_token_kind rest) a
+      → OneOrMore (listed_form k) separator Is g (first_token_kind rest') b → a ++ rest ≡ b ++ rest' → ends' (first_token_kind rest) ≡ true
+      → ends' (first_token_kind rest') ≡ true → SameParts (SameToDepth d) f g × (a ≡ b)
   chain_case d f g a b rest rest' (one h) (one j) q s s' =
       (agree_ended (o.agree d f g) w).holds a b rest rest' h j q s s'
   chain_case d f g a b rest rest' (one h) (more v u l j) q s s' =
@@ -97,7 +97,7 @@ module _ {ends ends' : TokenKind → Bool} {Is : RawForm → Form} (k : Listed) 
       let r = (agree_separated separator (agree_node o d) e e' w v.items z.items).holds a b rest rest' h j q s s' in
       (same.listed k v z u u' r.0, r.1)
 
-  pub one_chain : OneForm ends' (OneOrMore (form_of k) separator Is)
+  pub one_chain : OneForm ends' (OneOrMore (listed_form k) separator Is)
   one_chain = record { agree = λ d f g. record { holds = chain_case d f g } }
 
 -- Sums
@@ -152,9 +152,9 @@ module _ {P : RawForm → Form} (o : OneForm ends_product P) where
         (one_and (h.0 ∙ sym j.0, r.0.0) r.0.1, r.1);
   }
 
-  sum_case : (d : ℕ) (f g : RawForm) (a b rest rest' : Tokens) → ReadsSum P f (kind_at rest) a
-      → ReadsSum P g (kind_at rest') b → a ++ rest ≡ b ++ rest' → ends_sum (kind_at rest) ≡ true
-      → ends_sum (kind_at rest') ≡ true → SameParts (SameToDepth d) f g × (a ≡ b)
+  sum_case : (d : ℕ) (f g : RawForm) (a b rest rest' : Tokens) → ReadsSum P f (first_token_kind rest) a
+      → ReadsSum P g (first_token_kind rest') b → a ++ rest ≡ b ++ rest' → ends_sum (first_token_kind rest) ≡ true
+      → ends_sum (first_token_kind rest') ≡ true → SameParts (SameToDepth d) f g × (a ≡ b)
   sum_case d f g a b rest rest' (one h) (one j) q s s' =
       (agree_ended (o.agree d f g) sum_product).holds a b rest rest' h j q s s'
   sum_case d f g a b rest rest' (one h) (more v u l j) q s s' =
@@ -210,9 +210,9 @@ module _ {S : RawForm → Form} (o : OneForm ends_sum S) where
       (first_front (first_token (relation_starts r))) (λ k p q. not_true (ends_not k) q p))) (λ r. r.1))
       with_nothing (λ next ts h. then_map h (λ next ts g. g.form) (λ next ts g. g))
 
-  compare_case : (d : ℕ) (f g : RawForm) (a b rest rest' : Tokens) → ReadsCompare S f (kind_at rest) a
-      → ReadsCompare S g (kind_at rest') b → a ++ rest ≡ b ++ rest' → ends_not (kind_at rest) ≡ true
-      → ends_not (kind_at rest') ≡ true → SameParts (SameToDepth d) f g × (a ≡ b)
+  compare_case : (d : ℕ) (f g : RawForm) (a b rest rest' : Tokens) → ReadsCompare S f (first_token_kind rest) a
+      → ReadsCompare S g (first_token_kind rest') b → a ++ rest ≡ b ++ rest' → ends_not (first_token_kind rest) ≡ true
+      → ends_not (first_token_kind rest') ≡ true → SameParts (SameToDepth d) f g × (a ≡ b)
   compare_case d f g a b rest rest' (one h) (one j) q s s' =
       (agree_ended (o.agree d f g) not_sum).holds a b rest rest' h j q s s'
   compare_case d f g a b rest rest' (one h) (two r x y u j) q s s' =
@@ -242,9 +242,9 @@ one_negation {Not} {Compare} o p first = record { agree = λ d f g. record { hol
     not_first : {B : Form} → First (token (Reserved NOT) ▸ B) ends_not (is_word NOT)
     not_first = first_front (first_token refl)
 
-    by_case : (d : ℕ) (f g : RawForm) (a b rest rest' : Tokens) → ReadsNegation Not Compare f (kind_at rest) a
-        → ReadsNegation Not Compare g (kind_at rest') b → a ++ rest ≡ b ++ rest' → ends_not (kind_at rest) ≡ true
-        → ends_not (kind_at rest') ≡ true → SameParts (SameToDepth d) f g × (a ≡ b)
+    by_case : (d : ℕ) (f g : RawForm) (a b rest rest' : Tokens) → ReadsNegation Not Compare f (first_token_kind rest) a
+        → ReadsNegation Not Compare g (first_token_kind rest') b → a ++ rest ≡ b ++ rest' → ends_not (first_token_kind rest) ≡ true
+        → ends_not (first_token_kind rest') ≡ true → SameParts (SameToDepth d) f g × (a ≡ b)
     by_case d f g a b rest rest' (negated x u h) (negated y u' j) q s s' =
         let r = (agree_next (agree_token {ends = anything}) (agree_node o d x.value y.value)).holds a b rest rest' h j q s s' in (same.negation x y u u' r.0.1, r.1)
     by_case d f g a b rest rest' (negated x u h) (plain j) q s s' =
@@ -262,9 +262,9 @@ one_minus {Minus} {Primary} o p first = record { agree = λ d f g. record { hold
     minus_first : {B : Form} → First (token (Sign MINUS) ▸ B) ends_path (is_sign MINUS)
     minus_first = first_front (first_token refl)
 
-    by_case : (d : ℕ) (f g : RawForm) (a b rest rest' : Tokens) → ReadsMinusOf Minus Primary f (kind_at rest) a
-        → ReadsMinusOf Minus Primary g (kind_at rest') b → a ++ rest ≡ b ++ rest' → ends_path (kind_at rest) ≡ true
-        → ends_path (kind_at rest') ≡ true → SameParts (SameToDepth d) f g × (a ≡ b)
+    by_case : (d : ℕ) (f g : RawForm) (a b rest rest' : Tokens) → ReadsMinusOf Minus Primary f (first_token_kind rest) a
+        → ReadsMinusOf Minus Primary g (first_token_kind rest') b → a ++ rest ≡ b ++ rest' → ends_path (first_token_kind rest) ≡ true
+        → ends_path (first_token_kind rest') ≡ true → SameParts (SameToDepth d) f g × (a ≡ b)
     by_case d f g a b rest rest' (negated x u h) (negated y u' j) q s s' =
         let r = (agree_next (agree_token {ends = anything}) (agree_node o d x.value y.value)).holds a b rest rest' h j q s s' in (same.minus x y u u' r.0.1, r.1)
     by_case d f g a b rest rest' (negated x u h) (plain j) q s s' =
@@ -300,9 +300,9 @@ one_choice {E} {Or} o p first = record { agree = λ d f g. record { holds = by_c
         (agree_next (agree_token {ends = anything}) (agree_node o d z z'))))
         (λ r. (r.0, r.1.0, r.1.1.1))
 
-    by_case : (d : ℕ) (f g : RawForm) (a b rest rest' : Tokens) → ReadsChoice E Or f (kind_at rest) a
-        → ReadsChoice E Or g (kind_at rest') b → a ++ rest ≡ b ++ rest' → ends_expr (kind_at rest) ≡ true
-        → ends_expr (kind_at rest') ≡ true → SameParts (SameToDepth d) f g × (a ≡ b)
+    by_case : (d : ℕ) (f g : RawForm) (a b rest rest' : Tokens) → ReadsChoice E Or f (first_token_kind rest) a
+        → ReadsChoice E Or g (first_token_kind rest') b → a ++ rest ≡ b ++ rest' → ends_expr (first_token_kind rest) ≡ true
+        → ends_expr (first_token_kind rest') ≡ true → SameParts (SameToDepth d) f g × (a ≡ b)
     by_case d f g a b rest rest' (choice h) (choice j) q s s' =
         let r = (both d h.test h.value h.other.value j.test j.value j.other.value).holds a b rest rest' h.reads j.reads
         q s s' in
@@ -406,9 +406,9 @@ module _ {E : RawForm → Form} (o : OneForm ends_expr E) where
       (between (Sign OPEN_PARENTHESIS) (Sign CLOSE_PARENTHESIS) (E g)) (SameParts (SameToDepth d) f g)
   inner d f g = agree_between {ends' = anything} (o.agree d f g) refl
 
-  primary_case : (d : ℕ) (f g : RawForm) (a b rest rest' : Tokens) (h : ReadsPrimary E f (kind_at rest) a)
-      (j : ReadsPrimary E g (kind_at rest') b) → a ++ rest ≡ b ++ rest' → ends_path (kind_at rest) ≡ true
-      → ends_path (kind_at rest') ≡ true → tag h ≡ tag j → SameParts (SameToDepth d) f g × (a ≡ b)
+  primary_case : (d : ℕ) (f g : RawForm) (a b rest rest' : Tokens) (h : ReadsPrimary E f (first_token_kind rest) a)
+      (j : ReadsPrimary E g (first_token_kind rest') b) → a ++ rest ≡ b ++ rest' → ends_path (first_token_kind rest) ≡ true
+      → ends_path (first_token_kind rest') ≡ true → tag h ≡ tag j → SameParts (SameToDepth d) f g × (a ≡ b)
   primary_case d f g a b rest rest' (truth u h) (truth u' j) q s s' t =
       (same.equal (u ∙ sym u'), ((agree_token {ends = anything}).holds a b rest rest' h j q refl refl).1)
   primary_case d f g a b rest rest' (falsehood u h) (falsehood u' j) q s s' t =
@@ -431,8 +431,8 @@ module _ {E : RawForm → Form} (o : OneForm ends_expr E) where
   one_primary = record {
     agree = λ d f g. record {
       holds = λ a b rest rest' h j q s s'.
-          let first : kind_or (kind_at rest) a ≡ kind_or (kind_at rest') b =
-          sym (kind_before a rest) ∙ ap kind_at q ∙ kind_before b rest' in
+          let first : kind_or (first_token_kind rest) a ≡ kind_or (first_token_kind rest') b =
+          sym (kind_before a rest) ∙ ap first_token_kind q ∙ kind_before b rest' in
           primary_case d f g a b rest rest' h j q s s' (sym (tag_first h) ∙ ap tag_of first ∙ tag_first j);
     };
   }
@@ -448,7 +448,7 @@ none_here : {ends : TokenKind → Bool} {Is : RawForm → Form}
     → ((f : RawForm) (next : TokenKind) (ts : Tokens) → Is f next ts → ⊥) → OneForm ends Is
 none_here empty = record {
   agree = λ d f g. record
-      { holds = λ a b rest rest' h j q s s'. absurd (empty f (kind_at rest) a h) };
+      { holds = λ a b rest rest' h j q s s'. absurd (empty f (first_token_kind rest) a h) };
 }
 
 pub levels : (n : ℕ) → Levels n

@@ -13,7 +13,7 @@ use Rattle.expression_grammar.specs.Words.{Form, Tokens, kind_or, token, ◌▸�
 use Rattle.expression_grammar.specs.Paths.{ReadsPath}
 use Rattle.expression_grammar.specs.Expressions.{Node, ReadsExpr}
 use Rattle.ar_grammar.specs.Instructions.{ReadsElse, ReadsIfOf, ReadsGroupOf, ReadsSimpleOf, assign, tie, skip, ReadsInstrOf, simple, group, conditional, ReadsInstr}
-use Rattle.expression_grammar.specs.Results.{kind_at, anything, is_sign, is_word}
+use Rattle.expression_grammar.specs.Results.{first_token_kind, anything, is_sign, is_word}
 use Rattle.ar_grammar.specs.Results.{ends_group, begins_instr}
 use Rattle.expression_grammar.proofs.Finding.{fails, then_kind}
 use Rattle.expression_grammar.proofs.ExpressionForms.{sign_from, word_from}
@@ -68,8 +68,8 @@ module _ (n : ℕ) where
       (first_front (first_path (other (is_word SKIP)) refl refl refl p))
       (λ k x y. fails (other (is_word SKIP)) y (word_from SKIP k x) refl)
 
-  simple_case : (d : ℕ) (i j : Instr) (a b rest rest' : Tokens) → ReadsSimpleOf (ReadsExpr n) i (kind_at rest) a
-      → ReadsSimpleOf (ReadsExpr n) j (kind_at rest') b → a ++ rest ≡ b ++ rest'
+  simple_case : (d : ℕ) (i j : Instr) (a b rest rest' : Tokens) → ReadsSimpleOf (ReadsExpr n) i (first_token_kind rest) a
+      → ReadsSimpleOf (ReadsExpr n) j (first_token_kind rest') b → a ++ rest ≡ b ++ rest'
       → SameSteps (SameStepsToDepth d) i j × (a ≡ b)
   simple_case d i j a b rest rest' (assign p e u h) (assign q g u' k) s =
       let r = (agree_then {ends' = anything} (agree_path p q) (first_front (first_token refl))
@@ -108,11 +108,11 @@ module _ (n : ℕ) {Inner : Instr → Form} (o : OneStep Inner) where
   agree_else d None None = record { holds = λ a b rest rest' h k e s s'. (tt, h.empty ∙ sym k.empty) }
   agree_else d None (Some y) = record {
     holds = λ a b rest rest' h k e s s'. absurd
-        (h.other (sym (ap (kind_or (kind_at rest)) h.empty) ∙ meet a b rest rest' e ∙ then_kind k));
+        (h.other (sym (ap (kind_or (first_token_kind rest)) h.empty) ∙ meet a b rest rest' e ∙ then_kind k));
   }
   agree_else d (Some x) None = record {
     holds = λ a b rest rest' h k e s s'. absurd
-        (k.other (sym (ap (kind_or (kind_at rest')) k.empty) ∙ meet b a rest' rest (sym e) ∙ then_kind h));
+        (k.other (sym (ap (kind_or (first_token_kind rest')) k.empty) ∙ meet b a rest' rest (sym e) ∙ then_kind h));
   }
   agree_else d (Some x) (Some y) = agree_map (agree_next agree_token (agree_step o d x.value y.value)) (λ r. r.1)
 
@@ -150,7 +150,7 @@ module _ (n : ℕ) {Inner : Instr → Form} (o : OneStep Inner) where
   }
 
   step_case : ((i : Instr) → First (Inner i) anything begins_instr) → (d : ℕ) (i j : Instr) (a b rest rest' : Tokens)
-      → ReadsInstrOf (ReadsExpr n) Inner i (kind_at rest) a → ReadsInstrOf (ReadsExpr n) Inner j (kind_at rest') b
+      → ReadsInstrOf (ReadsExpr n) Inner i (first_token_kind rest) a → ReadsInstrOf (ReadsExpr n) Inner j (first_token_kind rest') b
       → a ++ rest ≡ b ++ rest' → SameSteps (SameStepsToDepth d) i j × (a ≡ b)
   step_case first d i j a b rest rest' (simple h) (simple k) e = simple_case n d i j a b rest rest' h k e
   step_case first d i j a b rest rest' (simple h) (group k) e =

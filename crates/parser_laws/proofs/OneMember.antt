@@ -27,7 +27,7 @@ use Rattle.expression_grammar.specs.Paths.{ReadsPlacedName}
 use Rattle.expression_grammar.specs.Expressions.{Node, ReadsExpr}
 use Rattle.ar_grammar.specs.Instructions.{ReadsInstr}
 use Rattle.ar_grammar.specs.Members.{ReadsTypeForm, ReadsType, ReadsWord, ReadsSetting, ReadsSettings, ReadsEvent, ReadsDeclared, ReadsPart, ReadsTransition, sync, local, ReadsAssertion, ReadsHidden}
-use Rattle.expression_grammar.specs.Results.{kind_at, anything, is_sign, is_word, is_name, ends_path, ends_expr, ends_list, begins_expr}
+use Rattle.expression_grammar.specs.Results.{first_token_kind, anything, is_sign, is_word, is_name, ends_path, ends_expr, ends_list, begins_expr}
 use Rattle.ar_grammar.specs.Results.{ends_names, ends_attribute, ends_semicolon, begins_part}
 use Rattle.expression_grammar.proofs.Finding.{fails}
 use Rattle.expression_grammar.proofs.ExpressionForms.{then_map, then_assoc, sign_from, word_from}
@@ -228,7 +228,7 @@ pub agree_transition : (n : ℕ) (m m' : Member) → Agree anything (ReadsTransi
     (SameMember m m')
 agree_transition n m m' = record { holds = λ a b rest rest' h k e s s'. by_case a b rest rest' h k e }
   where
-    by_case : (a b rest rest' : Tokens) → ReadsTransition n m (kind_at rest) a → ReadsTransition n m' (kind_at rest') b
+    by_case : (a b rest rest' : Tokens) → ReadsTransition n m (first_token_kind rest) a → ReadsTransition n m' (first_token_kind rest') b
         → a ++ rest ≡ b ++ rest' → SameMember m m' × (a ≡ b)
     by_case a b rest rest' (sync name at v u h) (sync name' at' w u' k) e =
         let r = (agree_sync (name, at) (name', at') v w).holds a b rest rest' h k e refl refl in (

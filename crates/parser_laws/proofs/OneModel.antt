@@ -17,7 +17,7 @@ use Rattle.ar_base.specs.Numbers.{NameId}
 use Rattle.expression_grammar.specs.Words.{Form, Tokens, kind_or, token, nothing, ◌▸◌, ◌∣◌}
 use Rattle.ar_parser.specs.Models.{text_of, IsNumbered, name, other, AreNamesNumbered}
 use Rattle.ar_grammar.specs.Items.{ReadsWhole, ReadsBound, whole, negated, ReadsDomainBody, ReadsDomain, ReadsItem, ReadsItems}
-use Rattle.expression_grammar.specs.Results.{kind_at, anything, is_sign, is_word}
+use Rattle.expression_grammar.specs.Results.{first_token_kind, anything, is_sign, is_word}
 use Rattle.ar_grammar.specs.Results.{ends_item, is_end}
 use Rattle.expression_grammar.proofs.Finding.{fails, token_kind, then_kind}
 use Rattle.expression_grammar.proofs.ExpressionForms.{sign_from, word_from}
@@ -44,7 +44,7 @@ agree_whole x y = record {
 agree_bound : (x y : ℤ) → Agree anything (ReadsBound x) (ReadsBound y) (x ≡ y)
 agree_bound x y = record { holds = λ a b rest rest' h k e s s'. by_case a b rest rest' h k e }
   where
-    by_case : (a b rest rest' : Tokens) → ReadsBound x (kind_at rest) a → ReadsBound y (kind_at rest') b
+    by_case : (a b rest rest' : Tokens) → ReadsBound x (first_token_kind rest) a → ReadsBound y (first_token_kind rest') b
         → a ++ rest ≡ b ++ rest' → (x ≡ y) × (a ≡ b)
     by_case a b rest rest' (whole h) (whole k) e =
         (agree_whole {ends = anything} x y).holds a b rest rest' h k e refl refl
@@ -77,14 +77,14 @@ agree_domain_body (domain.Range x y) (domain.Range x' y') =
 agree_mark : Agree ends_item (nothing ∣ token (Sign SEMICOLON)) (nothing ∣ token (Sign SEMICOLON)) (Unit {0})
 agree_mark = record { holds = λ a b rest rest' h k e s s'. (tt, by_case a b rest rest' h k e s s') }
   where
-    by_case : (a b rest rest' : Tokens) → (nothing ∣ token (Sign SEMICOLON)) (kind_at rest) a
-        → (nothing ∣ token (Sign SEMICOLON)) (kind_at rest') b → a ++ rest ≡ b ++ rest'
-        → ends_item (kind_at rest) ≡ true → ends_item (kind_at rest') ≡ true → a ≡ b
+    by_case : (a b rest rest' : Tokens) → (nothing ∣ token (Sign SEMICOLON)) (first_token_kind rest) a
+        → (nothing ∣ token (Sign SEMICOLON)) (first_token_kind rest') b → a ++ rest ≡ b ++ rest'
+        → ends_item (first_token_kind rest) ≡ true → ends_item (first_token_kind rest') ≡ true → a ≡ b
     by_case a b rest rest' (inl h) (inl k) e s s' = h ∙ sym k
     by_case a b rest rest' (inl h) (inr k) e s s' =
-        fails ends_item s (sym (ap (kind_or (kind_at rest)) h) ∙ meet a b rest rest' e ∙ token_kind k) refl
+        fails ends_item s (sym (ap (kind_or (first_token_kind rest)) h) ∙ meet a b rest rest' e ∙ token_kind k) refl
     by_case a b rest rest' (inr h) (inl k) e s s' =
-        fails ends_item s' (sym (ap (kind_or (kind_at rest')) k) ∙ sym (meet a b rest rest' e) ∙ token_kind h) refl
+        fails ends_item s' (sym (ap (kind_or (first_token_kind rest')) k) ∙ sym (meet a b rest rest' e) ∙ token_kind h) refl
     by_case a b rest rest' (inr h) (inr k) e s s' =
         ((agree_token {ends = anything}).holds a b rest rest' h k e refl refl).1
 

@@ -11,7 +11,7 @@ use Rattle.ar_lexer.proofs.NumberLemmas.{cons_head}
 use Rattle.expression_grammar.specs.declared.lexeme.Lexeme.{Lexeme}
 use Rattle.expression_grammar.specs.Words.{Form, Tokens, kind_or, token, ◌▸◌, many, covering, IsSpanOf}
 use Rattle.ar_grammar.specs.Members.{plain_token, unread, unread_piece, ReadsAttribute, kept, kept_piece}
-use Rattle.expression_grammar.specs.Results.{kind_at, anything, is_sign}
+use Rattle.expression_grammar.specs.Results.{first_token_kind, anything, is_sign}
 use Rattle.ar_grammar.specs.Results.{ends_unread, ends_kept, ends_attribute}
 use Rattle.expression_grammar.proofs.Finding.{then_kind}
 use Rattle.ar_grammar.proofs.UnreadParts.{unread_open}
@@ -40,10 +40,10 @@ agree_plain = record {
 }
 
 -- a plain token is no bracket
-plain_group : {B : Form} (a b rest rest' : Tokens) → plain_token (kind_at rest) a
-    → (token (Sign OPEN_PARENTHESIS) ▸ B) (kind_at rest') b → a ++ rest ≡ b ++ rest' → ⊥
+plain_group : {B : Form} (a b rest rest' : Tokens) → plain_token (first_token_kind rest) a
+    → (token (Sign OPEN_PARENTHESIS) ▸ B) (first_token_kind rest') b → a ++ rest ≡ b ++ rest' → ⊥
 plain_group a b rest rest' h j e = h.no_open
-    (sym (ap (kind_or (kind_at rest)) h.alone) ∙ meet a b rest rest' e ∙ then_kind j)
+    (sym (ap (kind_or (first_token_kind rest)) h.alone) ∙ meet a b rest rest' e ∙ then_kind j)
 
 agree_many : {A : Form} {ends ends' : TokenKind → Bool} → Agree ends A A (Unit {0}) → First A anything ends
     → First A anything (other ends') → ((k : TokenKind) → ends' k ≡ true → ends k ≡ true)
@@ -64,7 +64,7 @@ agree_unread : (n : ℕ) → Agree anything (unread_piece n) (unread_piece n) (U
 agree_unread n f = agree_many f (record { holds = λ next ts h s. refl }) (unread_starts n) (λ k s. refl)
 
 piece_case : (n : ℕ) → Agree anything (unread_piece n) (unread_piece n) (Unit {0}) → (a b rest rest' : Tokens)
-    → unread_piece (suc n) (kind_at rest) a → unread_piece (suc n) (kind_at rest') b → a ++ rest ≡ b ++ rest'
+    → unread_piece (suc n) (first_token_kind rest) a → unread_piece (suc n) (first_token_kind rest') b → a ++ rest ≡ b ++ rest'
     → Unit {0} × (a ≡ b)
 piece_case n f a b rest rest' (inl h) (inl j) e = (agree_plain {ends = anything}).holds a b rest rest' h j e refl refl
 piece_case n f a b rest rest' (inl h) (inr j) e = absurd (plain_group a b rest rest' h j e)
@@ -120,7 +120,7 @@ agree_kept_piece zero = record {
 }
 agree_kept_piece (suc n) = record { holds = λ a b rest rest' h j e s s'. by_case a b rest rest' h j e }
   where
-    by_case : (a b rest rest' : Tokens) → kept_piece (suc n) (kind_at rest) a → kept_piece (suc n) (kind_at rest') b
+    by_case : (a b rest rest' : Tokens) → kept_piece (suc n) (first_token_kind rest) a → kept_piece (suc n) (first_token_kind rest') b
         → a ++ rest ≡ b ++ rest' → Unit {0} × (a ≡ b)
     by_case a b rest rest' (inl h) (inl j) e =
         (agree_plain {ends = anything}).holds a b rest rest' h.plain j.plain e refl refl

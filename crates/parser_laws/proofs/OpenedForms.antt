@@ -7,7 +7,7 @@ use Rattle.ar_syntax.specs.declared.expressions.RawForm.{RawForm, out-RawForm}
 use Rattle.ar_syntax.specs.declared.expressions.RawForm.TheOpen as form
 use Rattle.ar_syntax.proofs.Opened.{form-path, form-not, form-minus, form-all, form-any, form-product, form-least}
 use Rattle.ar_syntax.proofs.Opened.{form-greatest, form-count, form-compare, form-sum, form-choice}
-use Rattle.parser_laws.specs.Expressions.{SamePath, Listed, all, any, product, least, greatest, count, form_of}
+use Rattle.parser_laws.specs.Expressions.{SamePath, ListedForm, all, any, product, least, greatest, count, listed_form}
 use Rattle.parser_laws.specs.Expressions.{SameParts, equal, path, negation, minus, listed, compared, sum, choice}
 use Rattle.parser_laws.specs.Expressions.{SameToDepth, SameExpr}
 use Rattle.parser_laws.specs.Opened.{ExprForm, SameFormBy, SameForm}
@@ -66,7 +66,7 @@ module _ (Same : RawExpr → RawExpr → Type 0) (self : (e : RawExpr) → Same 
   both f g x y p q s =
       subst (λ (z : ExprForm). SameFormBy Same z g) (sym p) (subst (λ (z : ExprForm). SameFormBy Same x z) (sym q) s)
 
-  listed_forms : (k : Listed) (f g : RawForm) (v w : Vec RawExpr Global) → f ≡ form_of k v → g ≡ form_of k w
+  listed_forms : (k : ListedForm) (f g : RawForm) (v w : Vec RawExpr Global) → f ≡ listed_form k v → g ≡ listed_form k w
       → Along Same v.items w.items
       → SameFormBy Same (out-RawForm f) (out-RawForm g)
   listed_forms all f g v w p q s = both _ _ _ _ (form-all f v p) (form-all g w q) s

@@ -21,7 +21,7 @@ use Rattle.parser_laws.specs.Expressions as agree
 use Rattle.parser_laws.specs.Members.{SameSetting, SamePart, SameUnitBy, SameMemberBy, SameMemberToDepth, SameMember}
 use Rattle.parser_laws.specs.Members as agree_member
 use Rattle.parser_laws.specs.Models.{SameDomain, symbols, range, SameItem, domains, classes, blocks, SameModel}
-use Rattle.parser_laws.specs.Opened.{InstrForm, SameStepBy, SameStep, SameKindBy, SameKind}
+use Rattle.parser_laws.specs.Opened.{OpenedInstr, SameStepBy, SameStep, SameKindBy, SameKind}
 use Rattle.parser_laws.specs.Opened.{SameBody, SameItemForm, SameModelForm}
 use Rattle.parser_laws.proofs.Agreeing.{along_map}
 use Rattle.parser_laws.proofs.OpenedForms.{along_self, along_all, path_self, expr_self}
@@ -40,17 +40,17 @@ module _ (Same : Instr → Instr → Type 0) (self : (i : Instr) → Same i i) w
   branch_self None = tt
   branch_self (Some x) = self x.value
 
-  instr_self : (i : InstrForm) → SameStepBy Same i i
+  instr_self : (i : OpenedInstr) → SameStepBy Same i i
   instr_self instr.Skip = tt
   instr_self (instr.Assign p e) = (path_self p, same_expr e)
   instr_self (instr.Tie p q) = (path_self p, path_self q)
   instr_self (instr.If e x o) = (same_expr e, self x.value, branch_self o)
   instr_self (instr.All v) = along_self self v.items
 
-  both_steps : (i j x y : InstrForm) → i ≡ x → j ≡ y → SameStepBy Same x y → SameStepBy Same i j
+  both_steps : (i j x y : OpenedInstr) → i ≡ x → j ≡ y → SameStepBy Same x y → SameStepBy Same i j
   both_steps i j x y p q s =
-      subst (λ (z : InstrForm). SameStepBy Same z j) (sym p)
-      (subst (λ (z : InstrForm). SameStepBy Same x z) (sym q) s)
+      subst (λ (z : OpenedInstr). SameStepBy Same z j) (sym p)
+      (subst (λ (z : OpenedInstr). SameStepBy Same x z) (sym q) s)
 
   steps_forms : (i j : Instr) → SameSteps Same i j → SameStepBy Same (out-Instr i) (out-Instr j)
   steps_forms i j (agree.equal e) =
@@ -71,7 +71,7 @@ branches_all (Some x) None h = h 0
 branches_all (Some x) (Some y) h = h
 
 -- forms that are alike to each depth
-steps_all : (i j : InstrForm) → ((d : ℕ) → SameStepBy (SameStepsToDepth d) i j) → SameStep i j
+steps_all : (i j : OpenedInstr) → ((d : ℕ) → SameStepBy (SameStepsToDepth d) i j) → SameStep i j
 steps_all instr.Skip instr.Skip h = tt
 steps_all (instr.Assign p e) (instr.Assign q f) h = h 0
 steps_all (instr.Tie p q) (instr.Tie r s) h = h 0

@@ -4,9 +4,9 @@ use Rattle.std.specs.Prelude.{ℤ}
 use Rattle.ar_syntax.specs.declared.expressions.RawExpr.{RawExpr}
 use Rattle.ar_syntax.specs.declared.expressions.RawForm.{RawForm}
 use Rattle.ar_syntax.specs.declared.expressions.RawForm.TheVariants as form
-use Rattle.parser_laws.specs.Expressions.{Listed, all, any, product, least, greatest, count, form_of, SameParts, equal, path, negation, minus, listed, compared, sum, choice}
+use Rattle.parser_laws.specs.Expressions.{ListedForm, all, any, product, least, greatest, count, listed_form, SameParts, equal, path, negation, minus, listed, compared, sum, choice}
 
-no_list : (k : Listed) (v : _) (n : ℤ) → form_of k v ≡ form.Whole n → ⊥
+no_list : (k : ListedForm) (v : _) (n : ℤ) → listed_form k v ≡ form.Whole n → ⊥
 no_list all v n e = absurd (cc)
 no_list any v n e = absurd (cc)
 no_list product v n e = absurd (cc)

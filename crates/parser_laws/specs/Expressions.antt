@@ -19,21 +19,21 @@ pub record SamePath (p q : Path) : Type 0 where
   pub place : p.at ≡ q.at
 
 -- the forms that are a list of expressions
-pub data Listed : Type 0 where
-  all : Listed
-  any : Listed
-  product : Listed
-  least : Listed
-  greatest : Listed
-  count : Listed
+pub data ListedForm : Type 0 where
+  all : ListedForm
+  any : ListedForm
+  product : ListedForm
+  least : ListedForm
+  greatest : ListedForm
+  count : ListedForm
 
-abbrev pub form_of : Listed → Vec RawExpr Global → RawForm
-form_of all = form.All
-form_of any = form.Any
-form_of product = form.Product
-form_of least = form.Least
-form_of greatest = form.Greatest
-form_of count = form.Count
+abbrev pub listed_form : ListedForm → Vec RawExpr Global → RawForm
+listed_form all = form.All
+listed_form any = form.Any
+listed_form product = form.Product
+listed_form least = form.Least
+listed_form greatest = form.Greatest
+listed_form count = form.Count
 
 -- One kind of form, whose parts are the same.
 pub data SameParts (Same : RawExpr → RawExpr → Type 0) (f g : RawForm) : Type 0 where
@@ -41,7 +41,7 @@ pub data SameParts (Same : RawExpr → RawExpr → Type 0) (f g : RawForm) : Typ
   path : (p q : Path) → f ≡ form.Path p → g ≡ form.Path q → SamePath p q → SameParts Same f g
   negation : (x y : Box RawExpr Global) → f ≡ form.Not x → g ≡ form.Not y → Same x.value y.value → SameParts Same f g
   minus : (x y : Box RawExpr Global) → f ≡ form.Minus x → g ≡ form.Minus y → Same x.value y.value → SameParts Same f g
-  listed : (k : Listed) (v w : Vec RawExpr Global) → f ≡ form_of k v → g ≡ form_of k w → Along Same v.items w.items
+  listed : (k : ListedForm) (v w : Vec RawExpr Global) → f ≡ listed_form k v → g ≡ listed_form k w → Along Same v.items w.items
       → SameParts Same f g
   compared : (r : RawRelation) (x y x' y' : Box RawExpr Global) → f ≡ form.Compare r x y → g ≡ form.Compare r x' y'
       → Same x.value x'.value → Same y.value y'.value → SameParts Same f g

@@ -28,7 +28,7 @@ use Rattle.ar_syntax.specs.declared.items.Item.TheVariants as item
 use Rattle.ar_syntax.specs.declared.items.Model.{Model}
 use Rattle.ar_base.specs.Numbers.{NameId}
 use Rattle.ar_parser.specs.Models.{Reads}
-use Rattle.parser_laws.specs.Expressions.{Listed, form_of}
+use Rattle.parser_laws.specs.Expressions.{ListedForm, listed_form}
 
 -- at most `room` items, each of which passes
 abbrev pub IsListOf : {A : Type 0} → ℕ → (A → Type 0) → List A → Type 0
@@ -49,7 +49,7 @@ pub data FormKeeps (names room : ℕ) (Inside : RawExpr → Type 0) (f : RawForm
   path : (p : Path) → f ≡ form.Path p → PathKeeps names room p → FormKeeps names room Inside f
   negation : (x : Box RawExpr Global) → f ≡ form.Not x → Inside x.value → FormKeeps names room Inside f
   minus : (x : Box RawExpr Global) → f ≡ form.Minus x → Inside x.value → FormKeeps names room Inside f
-  listed : (k : Listed) (v : Vec RawExpr Global) → f ≡ form_of k v → IsListOf room Inside v.items
+  listed : (k : ListedForm) (v : Vec RawExpr Global) → f ≡ listed_form k v → IsListOf room Inside v.items
       → FormKeeps names room Inside f
   compared : (r : RawRelation) (x y : Box RawExpr Global) → f ≡ form.Compare r x y → Inside x.value → Inside y.value
       → FormKeeps names room Inside f

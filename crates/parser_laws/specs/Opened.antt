@@ -57,11 +57,11 @@ SameForm = SameFormBy SameExpr
 -- Instructions
 
 -- an instruction with its outermost kind in view
-abbrev pub InstrForm : Type 0
-InstrForm = Instr-F Instr
+abbrev pub OpenedInstr : Type 0
+OpenedInstr = Instr-F Instr
 
 -- one kind, where the instructions inside are related
-abbrev pub SameStepBy : (Instr → Instr → Type 0) → InstrForm → InstrForm → Type 0
+abbrev pub SameStepBy : (Instr → Instr → Type 0) → OpenedInstr → OpenedInstr → Type 0
 SameStepBy Same instr.Skip instr.Skip = Unit {0}
 SameStepBy Same (instr.Assign p e) (instr.Assign q f) = SamePath p q × SameExpr e f
 SameStepBy Same (instr.Tie p q) (instr.Tie r s) = SamePath p r × SamePath q s
@@ -71,7 +71,7 @@ SameStepBy Same (instr.All v) (instr.All w) = Along Same v.items w.items
 SameStepBy Same _ _ = ⊥
 
 -- one kind, and the instructions inside agree
-abbrev pub SameStep : InstrForm → InstrForm → Type 0
+abbrev pub SameStep : OpenedInstr → OpenedInstr → Type 0
 SameStep = SameStepBy SameInstr
 
 -- Members

@@ -2,7 +2,7 @@
 use Rattle.std.proofs.Common.{◌≡◌, ◌&&◌, ℕ, Option, List, [], ◌∷◌, ◌++◌, length, refl, ◌∙◌, ap}
 use Rattle.ar_base.specs.Lists.{Along}
 use Rattle.domains.specs.declared.Value.{Value}
-use Rattle.typed_expr.specs.PairsInside.{turned}
+use Rattle.typed_expr.specs.PairsInside.{turned_pairs}
 use Rattle.typed_expr.specs.declared.expr.Expr.{Expr}
 use Rattle.ar_meaning.specs.Systems.{System}
 use Rattle.ar_meaning.specs.Image.{Expr_renames}
@@ -82,7 +82,7 @@ module _ {V W : Type 0} (same : V → W → Type 0) (here : System V) (there : S
     are_live = record {
       sound = λ e o. live_event_there same here there image dropped e (h.are_live.sound e o);
       whole = λ e l.
-          h.are_live.whole e (live_event_there (turned same) there here (image_turned same image) dropped e l);
+          h.are_live.whole e (live_event_there (turned_pairs same) there here (image_turned same image) dropped e l);
       different = h.are_live.different;
     };
     is_text = h.is_text ∙ ap (λ (z : List ℕ). z ++ events_line (length h.events))
@@ -99,7 +99,7 @@ module _ {V W : Type 0} (same : V → W → Type 0) (here : System V) (there : S
         (has_other order (ConflictSet here dropped) (ConflictSet there dropped)
         (λ s c. conflict_set_there same here there image dropped s c))
         (has_other order (ConflictSet there dropped) (ConflictSet here dropped)
-        (λ s c. conflict_set_there (turned same) there here (image_turned same image) dropped s c)) h.are_listed;
+        (λ s c. conflict_set_there (turned_pairs same) there here (image_turned same image) dropped s c)) h.are_listed;
     labels = h.labels;
     is_line = line_there same here there image dropped h.is_line;
     fault = h.fault;

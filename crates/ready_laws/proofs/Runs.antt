@@ -2,7 +2,7 @@
 use Rattle.std.proofs.Common.{◌≡◌, ℕ, List, Option, Some, None, refl, ap}
 use Rattle.ar_base.specs.Texts.{text_at}
 use Rattle.domains.specs.declared.Value.{Value}
-use Rattle.typed_expr.specs.PairsInside.{turned}
+use Rattle.typed_expr.specs.PairsInside.{turned_pairs}
 use Rattle.typed_expr.specs.declared.expr.Expr.{Expr}
 use Rattle.typed_expr.proofs.Renaming.{renames_turned}
 use Rattle.ar_meaning.specs.Systems.{System}
@@ -89,7 +89,7 @@ lines_as names P Q on off (tells {r = r} h more) = tells (on r.flow h) (lines_as
 lines_as names P Q on off (leaves {r = r} h more) = leaves (λ q. h (off r.flow q)) (lines_as names P Q on off more)
 
 observer_turned : {V W : Type 0} (same : V → W → Type 0) (observer : Option (Expr V)) (other : Option (Expr W))
-    → SameObserver same observer other → SameObserver (turned same) other observer
+    → SameObserver same observer other → SameObserver (turned_pairs same) other observer
 observer_turned same None None s = tt
 observer_turned same None (Some f) s = absurd s
 observer_turned same (Some e) None s = absurd s
@@ -105,7 +105,7 @@ module _ {V W : Type 0} (same : V → W → Type 0) (here : System V) (there : S
     are_reasons = reasons_there same here.net there.net image.net values image.net.variables h.are_reasons;
     lines = lines_as names (IsTold here.net h.reasons observer) (IsTold there.net h.reasons other)
         (told_there same here there image names h.reasons observer other s)
-        (told_there (turned same) there here (image_turned same image) names h.reasons other observer
+        (told_there (turned_pairs same) there here (image_turned same image) names h.reasons other observer
         (observer_turned same observer other s))
         h.lines;
   }

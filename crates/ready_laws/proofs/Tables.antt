@@ -1,7 +1,7 @@
 -- Systems that are images of each other over one variable for one have the same flat systems and gate tables.
 use Rattle.std.proofs.Common.{◌≡◌, ℕ, List, subst}
 use Rattle.domains.specs.declared.Value.{Value}
-use Rattle.typed_expr.specs.PairsInside.{turned}
+use Rattle.typed_expr.specs.PairsInside.{turned_pairs}
 use Rattle.ar_meaning.specs.Systems.{System}
 use Rattle.ar_meaning.specs.ImageInside.{IsImage}
 use Rattle.ar_meaning.specs.FlatOf.{IsNumber, IsFlatOf}
@@ -15,22 +15,22 @@ module _ {V : Type 0} (things : List V) (here there : System V) (image : IsImage
   abbrev Same : V → V → Type 0
   Same x y = x ≡ y
 
-  by_place : (x y : V) (n : ℕ) → turned Same x y → IsNumber things y n → IsNumber things x n
+  by_place : (x y : V) (n : ℕ) → turned_pairs Same x y → IsNumber things y n → IsNumber things x n
   by_place x y n e s = subst (λ (z : V). IsNumber things z n) e s
 
   -- a flat system of the first is one of the second
   pub flat_there : (flat : System ℕ) → IsFlatOf things here flat → IsFlatOf things there flat
   flat_there flat f =
-      let back : IsImage (turned Same) there here = image_turned Same image in
+      let back : IsImage (turned_pairs Same) there here = image_turned Same image in
       record {
         different = f.different;
-        variables = along_joined (variable_joined (turned Same) (IsNumber things) (IsNumber things) by_place)
+        variables = along_joined (variable_joined (turned_pairs Same) (IsNumber things) (IsNumber things) by_place)
             back.net.variables f.variables;
-        assertions = along_joined (assign_joined (turned Same) (IsNumber things) (IsNumber things) by_place)
+        assertions = along_joined (assign_joined (turned_pairs Same) (IsNumber things) (IsNumber things) by_place)
             back.net.assertions f.assertions;
-        events = along_joined (event_joined (turned Same) (IsNumber things) (IsNumber things) by_place) back.events
+        events = along_joined (event_joined (turned_pairs Same) (IsNumber things) (IsNumber things) by_place) back.events
             f.events;
-        observers = along_joined (observer_joined (turned Same) (IsNumber things) (IsNumber things) by_place)
+        observers = along_joined (observer_joined (turned_pairs Same) (IsNumber things) (IsNumber things) by_place)
             back.observers f.observers;
       }
 

@@ -1,7 +1,7 @@
 -- What a job tells, a job that stands ready alike tells too, word for word.
 use Rattle.std.proofs.Common.{◌≡◌, ℕ, List, Option, Some, None, length, refl, sym, ◌∙◌, ap, subst}
 use Rattle.domains.specs.declared.Value.{Value}
-use Rattle.typed_expr.specs.PairsInside.{turned}
+use Rattle.typed_expr.specs.PairsInside.{turned_pairs}
 use Rattle.typed_expr.specs.declared.expr.Expr.{Expr}
 use Rattle.typed_expr.proofs.Renaming.{carries}
 use Rattle.ar_meaning.specs.Facts.{HasValue}
@@ -90,7 +90,7 @@ module _ (shared : (x y : Elaborated) → SameSource x y → Share x y) (w : Rea
   abbrev image : IsImage IsSameThing x.system y.system
   image = same.system
 
-  abbrev behind : IsImage (turned IsSameThing) y.system x.system
+  abbrev behind : IsImage (turned_pairs IsSameThing) y.system x.system
   behind = image_turned IsSameThing image
 
   -- Counts and flat systems
@@ -151,7 +151,7 @@ module _ (shared : (x y : Elaborated) → SameSource x y → Share x y) (w : Rea
       → IsConflictFreeUpTo order y.system dropped
   free_there order dropped free = told_free order y.system dropped (λ s u m.
       free_within order x.system dropped free s u s (within_self s)
-      (meets_there (turned IsSameThing) y.system x.system behind dropped m))
+      (meets_there (turned_pairs IsSameThing) y.system x.system behind dropped m))
 
   abbrev other : (h : HasCuts w) → Partner (Expr_renames IsSameThing) y.system.observers h.wanted.observer h.observed
   other h = partner image.observers h.wanted.observer h.observed h.is_observed
@@ -242,10 +242,10 @@ module _ (shared : (x y : Elaborated) → SameSource x y → Share x y) (w : Rea
         (has_other w.order (IsFirableSet x.system w.dropped) (IsFirableSet y.system w.dropped)
         (λ s f. (f.0, firable_there IsSameThing x.system y.system image w.dropped f.1)))
         (has_other w.order (IsFirableSet y.system w.dropped) (IsFirableSet x.system w.dropped)
-        (λ s f. (f.0, firable_there (turned IsSameThing) y.system x.system behind w.dropped f.1))) h.are_firable;
+        (λ s f. (f.0, firable_there (turned_pairs IsSameThing) y.system x.system behind w.dropped f.1))) h.are_firable;
     where_conflict = λ set c.
         h.where_conflict set (has_other w.order (ConflictSet y.system w.dropped) (ConflictSet x.system w.dropped)
-        (λ s d. conflict_set_there (turned IsSameThing) y.system x.system behind w.dropped s d) set c);
+        (λ s d. conflict_set_there (turned_pairs IsSameThing) y.system x.system behind w.dropped s d) set c);
     where_free = λ free.
         h.where_free (told_free w.order x.system w.dropped (λ s u m.
         free_within w.order y.system w.dropped free s u s (within_self s)

@@ -1,6 +1,6 @@
 -- Systems, declarations, sources and jobs that are alike are so the other way round.
 use Rattle.std.proofs.Common.{Bool, sym, ◌∙◌}
-use Rattle.typed_expr.specs.PairsInside.{turned}
+use Rattle.typed_expr.specs.PairsInside.{turned_pairs}
 use Rattle.typed_expr.specs.declared.expr.Expr.{Expr}
 use Rattle.typed_expr.proofs.Renaming.{renames_turned}
 use Rattle.ar_meaning.specs.Systems.{Assign, Variable, Transition, Event, Net, System}
@@ -21,41 +21,41 @@ use Rattle.job_stages.specs.Stages.{Ready}
 use Rattle.ready_laws.specs.Ready.{SameReady}
 
 -- there and back is the same, and then back
-out_and_in : (s t u : Thing) → turned IsSameThing s t → IsSameThing t u → IsSameThing s u
+out_and_in : (s t u : Thing) → turned_pairs IsSameThing s t → IsSameThing t u → IsSameThing s u
 out_and_in s t u e f = sym e ∙ f
 
-in_and_out : (s t u : Thing) → IsSameThing s t → turned IsSameThing t u → IsSameThing s u
+in_and_out : (s t u : Thing) → IsSameThing s t → turned_pairs IsSameThing t u → IsSameThing s u
 in_and_out s t u e f = e ∙ sym f
 
 assign_back : (a b : Assign Thing) → Assign_renames IsSameThing a b → Assign_renames IsSameThing b a
 assign_back a b r =
     let t = assign_turned IsSameThing a b r in
-    assign_joined IsSameThing (turned IsSameThing) IsSameThing in_and_out b b a
-    (assign_joined (turned IsSameThing) IsSameThing IsSameThing out_and_in b a b t r) t
+    assign_joined IsSameThing (turned_pairs IsSameThing) IsSameThing in_and_out b b a
+    (assign_joined (turned_pairs IsSameThing) IsSameThing IsSameThing out_and_in b a b t r) t
 
 variable_back : (x y : Variable Thing) → Variable_renames IsSameThing x y → Variable_renames IsSameThing y x
 variable_back x y r =
     let t = variable_turned IsSameThing x y r in
-    variable_joined IsSameThing (turned IsSameThing) IsSameThing in_and_out y y x
-    (variable_joined (turned IsSameThing) IsSameThing IsSameThing out_and_in y x y t r) t
+    variable_joined IsSameThing (turned_pairs IsSameThing) IsSameThing in_and_out y y x
+    (variable_joined (turned_pairs IsSameThing) IsSameThing IsSameThing out_and_in y x y t r) t
 
 transition_back : (d e : Transition Thing) → Transition_renames IsSameThing d e → Transition_renames IsSameThing e d
 transition_back d e r =
     let t = transition_turned IsSameThing d e r in
-    transition_joined IsSameThing (turned IsSameThing) IsSameThing in_and_out e e d
-    (transition_joined (turned IsSameThing) IsSameThing IsSameThing out_and_in e d e t r) t
+    transition_joined IsSameThing (turned_pairs IsSameThing) IsSameThing in_and_out e e d
+    (transition_joined (turned_pairs IsSameThing) IsSameThing IsSameThing out_and_in e d e t r) t
 
 event_back : (e f : Event Thing) → Event_renames IsSameThing e f → Event_renames IsSameThing f e
 event_back e f r =
     let t = event_turned IsSameThing e f r in
-    event_joined IsSameThing (turned IsSameThing) IsSameThing in_and_out f f e
-    (event_joined (turned IsSameThing) IsSameThing IsSameThing out_and_in f e f t r) t
+    event_joined IsSameThing (turned_pairs IsSameThing) IsSameThing in_and_out f f e
+    (event_joined (turned_pairs IsSameThing) IsSameThing IsSameThing out_and_in f e f t r) t
 
 observer_back : (e f : Expr Thing) → Expr_renames IsSameThing e f → Expr_renames IsSameThing f e
 observer_back e f r =
-    let t : Expr_renames (turned IsSameThing) f e = record { renames = renames_turned IsSameThing r.renames } in
-    observer_joined IsSameThing (turned IsSameThing) IsSameThing in_and_out f f e
-    (observer_joined (turned IsSameThing) IsSameThing IsSameThing out_and_in f e f t r) t
+    let t : Expr_renames (turned_pairs IsSameThing) f e = record { renames = renames_turned IsSameThing r.renames } in
+    observer_joined IsSameThing (turned_pairs IsSameThing) IsSameThing in_and_out f f e
+    (observer_joined (turned_pairs IsSameThing) IsSameThing IsSameThing out_and_in f e f t r) t
 
 part_back : (p q : Bool × Thing) → Part_renames IsSameThing p q → Part_renames IsSameThing q p
 part_back p q r = record { must = sym r.must; key = sym r.key }

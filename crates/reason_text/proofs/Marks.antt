@@ -9,14 +9,14 @@ use Rattle.ar_base.proofs.Standing.{one_none, one_split, one_left, one_right, on
 use Rattle.typed_expr.specs.declared.expr.Expr.{Expr}
 use Rattle.ar_meaning.specs.Found.{IsAnswer}
 use Rattle.flow_reasons.specs.Reasons.{InCone}
-use Rattle.flow_reasons.specs.ReasonsInside.{IsCone}
+use Rattle.flow_reasons.specs.ReasonsInside.{IsReasonCone}
 use Rattle.flow_reasons.specs.Reasons as rounds
 use Rattle.gts_core.specs.View.{net_of, numbered}
 use Rattle.gts_core.specs.declared.system.Observer.{Observer}
 use Rattle.gts_core.specs.declared.system.GtsParts.{GtsParts}
 use Rattle.gts_core.proofs.Tests.{turned_answer}
 use Rattle.flow_reasons.specs.Answers.{numbers_of}
-use Rattle.reason_text.specs.Answers.{told_at, AreTold, AreMarked, observed, value_found}
+use Rattle.reason_text.specs.Answers.{told_at, AreToldVariables, HasMarksAt, observed, value_found}
 
 at_here : (marks : List Bool) (n : ℕ) → n < length marks → told_at (set marks n true) n ≡ true
 at_here [] n l = absurd (omega (arith, l))
@@ -33,7 +33,7 @@ at_other (m ∷ marks) (suc k) (suc n) d = at_other marks k n (λ e. d (ap suc e
 -- so many marks
 pub record AreSoFar (count : ℕ) (xs : List VarId) (marks : List Bool) : Type 0 where
   pub long : length marks ≡ count
-  pub are : AreMarked count (numbers_of xs) marks
+  pub are : HasMarksAt count (numbers_of xs) marks
 
 unset_at : (count n : ℕ) → told_at (replicate count false) n ≡ false
 unset_at zero n = refl
@@ -82,8 +82,8 @@ one_more count xs i d old new l h e = subst (λ (z : List Bool). AreSoFar count 
     ]
 
 pub all_so_far : (count : ℕ) (xs : List VarId) (i : ℕ) (marks : List Bool) → length xs ≤ i
-    → AreSoFar count (take i xs) marks → AreMarked count (numbers_of xs) marks
-all_so_far count xs i marks l h = subst (λ (z : List VarId). AreMarked count (numbers_of z) marks) (take_all i xs l)
+    → AreSoFar count (take i xs) marks → HasMarksAt count (numbers_of xs) marks
+all_so_far count xs i marks l h = subst (λ (z : List VarId). HasMarksAt count (numbers_of z) marks) (take_all i xs l)
     h.are
 
 -- without an observer all are told
@@ -94,7 +94,7 @@ set_at (suc count) (suc n) l = set_at count n (omega (arith, l))
 
 pub told_all : (p : GtsParts) (reasons : List rounds.Reason) (count : ℕ) (marks : List Bool)
     → count ≡ length p.variables.items → marks ≡ replicate count true
-    → AreTold p reasons None marks
+    → AreToldVariables p reasons None marks
 told_all p reasons count marks e h = record {
   each = λ n l. subst (λ (b : Bool). IsAnswer b (Unit {0})) (sym (ap (λ z. told_at z n) h ∙ set_at count n (omega (arith, l, e)))) tt;
 }
@@ -102,11 +102,11 @@ told_all p reasons count marks e h = record {
 -- with one those of its cone
 pub told_cone : (p : GtsParts) (reasons : List rounds.Reason) (n : ℕ) (o : Observer) (numbers : List ℕ) (count : ℕ)
     (marks : List Bool) → Stands p.observers.items n o
-    → IsCone (net_of p) reasons (numbered o.value) numbers → count ≡ length p.variables.items
-    → AreMarked count numbers marks
-    → AreTold p reasons (observed p (Some n)) marks
+    → IsReasonCone (net_of p) reasons (numbered o.value) numbers → count ≡ length p.variables.items
+    → HasMarksAt count numbers marks
+    → AreToldVariables p reasons (observed p (Some n)) marks
 told_cone p reasons n o numbers count marks s c e h =
-    subst (λ (z : Option (Expr ℕ)). AreTold p reasons z marks) (sym (ap value_found s)) (record {
+    subst (λ (z : Option (Expr ℕ)). AreToldVariables p reasons z marks) (sym (ap value_found s)) (record {
       each = λ k l. turned_answer (told_at marks k) (IsOneOf numbers k) (InCone (net_of p) reasons (numbered o.value) k)
           (λ i. c.sound k i) (λ i. c.whole k i)
           (h.each k (omega (arith, l, e)));

@@ -1,7 +1,7 @@
 -- The text of a flat system is that of its source, and there is one.
 use Rattle.std.proofs.Common.{◌≡◌, ℕ, List, ◌++◌, Option, Some, None, refl, sym, ap, subst}
 use Rattle.domains.specs.declared.Value.{Value}
-use Rattle.typed_expr.specs.PairsInside.{turned}
+use Rattle.typed_expr.specs.PairsInside.{turned_pairs}
 use Rattle.typed_expr.specs.declared.expr.Expr.{Expr}
 use Rattle.typed_expr.proofs.Renaming.{renames_turned}
 use Rattle.ar_meaning.specs.Systems.{Net, System}
@@ -63,7 +63,7 @@ module _ {V : Type 0} (things : List V) (sys : System V) (flat : System ℕ) (of
   told_back None (Some f) a n h = absurd a
   told_back (Some e) None a n h = absurd a
   told_back (Some e) (Some f) a n h =
-      cone_there (turned (IsNumber things)) flat.net sys.net (flat_back things sys flat of).net reasons f e
+      cone_there (turned_pairs (IsNumber things)) flat.net sys.net (flat_back things sys flat of).net reasons f e
       (record { renames = renames_turned (IsNumber things) a.renames }) h
 
 pub text_of_source : (x : Elaborated) (p : GtsParts) → IsFlat x p
@@ -79,7 +79,7 @@ text_of_source x p f values observer other a text h =
     (sym f.views.net) h.lines in
     record {
       reasons = h.reasons;
-      are_reasons = reasons_there (turned (IsNumber things)) f.flat.net x.system.net back values back.variables r;
+      are_reasons = reasons_there (turned_pairs (IsNumber things)) f.flat.net x.system.net back values back.variables r;
       lines = subst (λ (z : Naming). ReasonLines z (IsTold x.system.net h.reasons observer) h.reasons text) f.names
           (lines_as (naming_of_parts p) (IsTold f.flat.net h.reasons other) (IsTold x.system.net h.reasons observer)
           (told_back things x.system f.flat f.is_flat h.reasons observer other a)

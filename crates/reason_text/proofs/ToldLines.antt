@@ -4,7 +4,7 @@ use Rattle.ar_base.specs.Lists.{IsOneOf}
 use Rattle.ar_base.specs.NumbersInside.{AssignId}
 use Rattle.ar_base.proofs.Standing.{stands_within, stands_map, stands_map_back, one_here, one_first, one_rest}
 use Rattle.ar_io.specs.Writing.{SinkState}
-use Rattle.ar_io.specs.WritingInside.{Writes}
+use Rattle.ar_io.specs.Handing.{Writes}
 use Rattle.ar_io.specs.declared.outside.SinkFailed.{SinkFailed}
 use Rattle.domains.specs.declared.Value.{Value}
 use Rattle.ar_meaning.specs.Systems as s
@@ -21,7 +21,7 @@ use Rattle.replayer.specs.declared.replaying.ReplayFault.{ReplayFault}
 use Rattle.replayer.specs.declared.replaying.ReplayFault.TheVariants.{Write, Memory}
 use Rattle.flow_reasons.specs.Answers.{reason_of, reasons_of}
 use Rattle.flow_reasons.specs.declared.reason.Reason.{Reason}
-use Rattle.reason_text.specs.Answers.{Explains, told_at, told_line, told_lines, AreTold, HaveAssigns}
+use Rattle.reason_text.specs.Answers.{Explains, told_at, told_line, told_lines, AreToldVariables, HaveAssigns}
 use Rattle.reason_text.specs.Texts.{reason_line, ReasonLines, none, tells, leaves, IsTold}
 
 -- a test that decides the flow
@@ -55,7 +55,7 @@ module _ (p : GtsParts) (values : List Value) (found : List Reason)
       omega (arith, h.number, l, k)
 
   -- the lines that are written are those of the flows that are told
-  pub lines_are : (names : Naming) (observer : _) (told : List Bool) → AreTold p (reasons_of found) observer told
+  pub lines_are : (names : Naming) (observer : _) (told : List Bool) → AreToldVariables p (reasons_of found) observer told
       → ReasonLines names (IsTold (net_of p) (reasons_of found) observer) (reasons_of found)
       (told_lines names told (reasons_of found))
   lines_are names observer told h =

@@ -3,7 +3,7 @@ use Rattle.std.specs.Prelude.{◌≡◌, ◌<◌, ℕ, Bool, false, List, [], �
 use Rattle.ar_base.specs.Lists.{IsOneOf}
 use Rattle.ar_base.specs.NumbersInside.{AssignId}
 use Rattle.ar_io.specs.Writing.{SinkState}
-use Rattle.ar_io.specs.WritingInside.{Writes}
+use Rattle.ar_io.specs.Handing.{Writes}
 use Rattle.typed_expr.specs.declared.expr.Expr.{Expr}
 use Rattle.ar_meaning.specs.Image.{Expr_renames}
 use Rattle.ar_meaning.specs.FlatOf.{IsNumber}
@@ -61,12 +61,12 @@ told_lines names told [] = []
 told_lines names told (r ∷ rs) = told_line names told r ++ told_lines names told rs
 
 -- for each variable whether it is told
-pub record AreTold (p : GtsParts) (reasons : List rounds.Reason) (observer : Option (Expr ℕ)) (told : List Bool) : Type
+pub record AreToldVariables (p : GtsParts) (reasons : List rounds.Reason) (observer : Option (Expr ℕ)) (told : List Bool) : Type
     0 where
   pub each : (n : ℕ) → n < length p.variables.items → IsAnswer (told_at told n) (IsTold (net_of p) reasons observer n)
 
 -- so many marks, of which those of these numbers are set
-pub record AreMarked (count : ℕ) (numbers : List ℕ) (marks : List Bool) : Type 0 where
+pub record HasMarksAt (count : ℕ) (numbers : List ℕ) (marks : List Bool) : Type 0 where
   pub each : (n : ℕ) → n < count → IsAnswer (told_at marks n) (IsOneOf numbers n)
 
 -- the assignment that added the value is one of the system's

@@ -2,7 +2,7 @@
 
 ghost use Rattle.std.specs.Prelude.{◌≡◌, ◌<◌, false, length, codes};
 ghost use Rattle.ar_base.specs.Texts.{separated};
-ghost use Rattle.ar_io.specs.WritingInside.{Writes};
+ghost use Rattle.ar_io.specs.Handing.{Writes};
 ghost use Rattle.gts_flatten.specs.Flat.{naming_of_parts};
 ghost use Rattle.flow_reasons.specs.Answers.{numbers_of, reason_of, reasons_of};
 ghost use Rattle.reason_text.specs.Answers.{told_at, told_lines, told_line, HaveAssigns, HasAssign};

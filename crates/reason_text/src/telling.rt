@@ -2,7 +2,7 @@
 
 ghost use Rattle.std.specs.Prelude.{IfOk};
 ghost use Rattle.flow_reasons.specs.Answers.{numbers_of, reasons_of, AreOfState};
-ghost use Rattle.reason_text.specs.Answers.{IsObserverIn, observed, AreTold, AreMarked};
+ghost use Rattle.reason_text.specs.Answers.{IsObserverIn, observed, AreToldVariables, HasMarksAt};
 
 use ar_base::{Memory, VarId, mark};
 use flow_reasons::{Reason, cone};
@@ -18,7 +18,7 @@ pub(crate) fn told(
 ) -> Result<Vec<bool>, Memory>
     requires reasons { AreOfState gts.now reasons.now }
     requires range { IsObserverIn gts.now observer }
-    ensures { IfOk result (λ told. AreTold gts.now (reasons_of reasons.now)
+    ensures { IfOk result (λ told. AreToldVariables gts.now (reasons_of reasons.now)
         (observed gts.now observer) told.items) }
 {
     let count = gts.parts().variables.len();
@@ -36,7 +36,7 @@ pub(crate) fn told(
 
 // So many marks, of which those of these variables are set.
 fn marks_of(alloc: Global, variables: &[VarId], count: usize) -> Result<Vec<bool>, Memory>
-    ensures { IfOk result (λ marks. AreMarked count (numbers_of variables.now) marks.items) }
+    ensures { IfOk result (λ marks. HasMarksAt count (numbers_of variables.now) marks.items) }
 {
     let mut marks = vec![in alloc; false; count]?;
     for variable in variables {

@@ -10,10 +10,10 @@ use Rattle.domains.specs.declared.Value.{Value}
 use Rattle.domains.specs.Same.{is_same}
 use Rattle.domains.proofs.Same.{same_is, same_self}
 use Rattle.ar_meaning.proofs.OneAnswer.{same_value}
-use Rattle.gts_core.specs.Readings.{value_at}
+use Rattle.gts_core.specs.Readings.{valuation_at}
 use Rattle.gts_core.proofs.Reading.{read_value}
-use Rattle.value_changes.specs.Changes.{numbers, HasChanged, AreChanges}
-use Rattle.replayer.specs.Printing.{change_text, changes_from, texts_of}
+use Rattle.value_changes.specs.Changes.{changed_numbers, HasChanged, AreChanges}
+use Rattle.replayer.specs.Printing.{change_text, changes_from, numbered_texts}
 use Rattle.stepper.proofs.Kept.{kept_value}
 
 -- the texts of so many numbers from n on
@@ -23,7 +23,7 @@ span text n (suc k) = text n ++ span text (n + 1) k
 
 -- all texts are those of the numbers whose texts are not empty
 span_texts : (text : ℕ → List ℕ) (k n : ℕ) (ns : List ℕ) → Ascends ns → ((m : ℕ) → IsOneOf ns m → (n ≤ m) × (m < n + k))
-    → ((m : ℕ) → n ≤ m → m < n + k → (IsOneOf ns m → ⊥) → text m ≡ []) → span text n k ≡ texts_of text ns
+    → ((m : ℕ) → n ≤ m → m < n + k → (IsOneOf ns m → ⊥) → text m ≡ []) → span text n k ≡ numbered_texts text ns
 span_texts text zero n [] up within empty = refl
 span_texts text zero n (m ∷ ns) up within empty = let h = within m (one_first m ns) in let a = h.0 in let b = h.1 in absurd (omega (arith, a, b))
 span_texts text (suc k) n [] up within empty =
@@ -41,7 +41,7 @@ span_texts text (suc k) n (m ∷ ns) up within empty = elim (three n m) [
     | inl e ↦ (
         ap (λ (z : List ℕ). text n ++ z) (span_texts text k (n + 1) ns (ascends_rest m ns up) (λ j o. rest e j o)
         (λ j a b o. empty j (omega (arith, a)) (omega (arith, b)) (other e j a o)))
-        ∙ ap (λ (z : ℕ). text z ++ texts_of text ns) e
+        ∙ ap (λ (z : ℕ). text z ++ numbered_texts text ns) e
         )
     | inr h ↦ (let a = (within m (one_first m ns)).0 in absurd (omega (arith, a, h)))
   ])
@@ -64,10 +64,10 @@ span_texts text (suc k) n (m ∷ ns) up within empty = elim (three n m) [
 
 -- the texts of the same numbers
 pub texts_same : (some other : ℕ → List ℕ) (ns : List ℕ) → ((n : ℕ) → IsOneOf ns n → some n ≡ other n)
-    → texts_of some ns ≡ texts_of other ns
+    → numbered_texts some ns ≡ numbered_texts other ns
 texts_same some other [] same = refl
 texts_same some other (n ∷ ns) same =
-    ap (λ (z : List ℕ). z ++ texts_of some ns) (same n (one_first n ns))
+    ap (λ (z : List ℕ). z ++ numbered_texts some ns) (same n (one_first n ns))
     ∙ ap (λ (z : List ℕ). other n ++ z) (texts_same some other ns (λ m o. same m (one_rest n ns m o)))
 
 module _ (one : ℕ → Value → List ℕ) where
@@ -97,47 +97,47 @@ module _ (one : ℕ → Value → List ℕ) where
   pub changes_texts : (vs ws : List Value) (ns : List ℕ) → length vs ≡ length ws → Ascends ns
       → ((m : ℕ) → IsOneOf ns m → m < length vs)
       → ((m : ℕ) (v w : Value) → Stands vs m v → Stands ws m w → (v ≡ w → ⊥) → IsOneOf ns m)
-      → changes_from one 0 vs ws ≡ texts_of (λ m. change_text one m (value_at vs m) (value_at ws m)) ns
+      → changes_from one 0 vs ws ≡ numbered_texts (λ m. change_text one m (valuation_at vs m) (valuation_at ws m)) ns
   changes_texts vs ws ns long up within all =
       changes_span text 0 vs ws long (λ k m v w e s t. same k m v w e s t) ∙ span_texts text (length vs) 0 ns up (λ m o. (omega arith, let l = within m o in omega (arith, l))) (λ m a b lacks. empty m (omega (arith, b)) lacks)
     where
       text : ℕ → List ℕ
-      text m = change_text one m (value_at vs m) (value_at ws m)
+      text m = change_text one m (valuation_at vs m) (valuation_at ws m)
 
       same : (k m : ℕ) (v w : Value) → m ≡ 0 + k → Stands vs k v → Stands ws k w → text m ≡ change_text one m v w
       same k m v w e s t =
           let i : m ≡ k = omega (arith, e) in
-          ap (λ z. change_text one m z (value_at ws m)) (ap (value_at vs) i ∙ read_value vs k v s)
-          ∙ ap (λ z. change_text one m v z) (ap (value_at ws) i ∙ read_value ws k w t)
+          ap (λ z. change_text one m z (valuation_at ws m)) (ap (valuation_at vs) i ∙ read_value vs k v s)
+          ∙ ap (λ z. change_text one m v z) (ap (valuation_at ws) i ∙ read_value ws k w t)
 
       empty : (m : ℕ) → m < length vs → (IsOneOf ns m → ⊥) → text m ≡ []
       empty m l lacks =
           let v = stands_some vs m l in
           let w = stands_some ws m (omega (arith, l, long)) in
           let i : v.0 ≡ w.0 = same_value v.0 w.0 (λ differ. lacks (all m v.0 w.0 v.1 w.1 differ)) in
-          unchanged m (value_at vs m) (value_at ws m) (read_value vs m v.0 v.1 ∙ i ∙ sym (read_value ws m w.0 w.1))
+          unchanged m (valuation_at vs m) (valuation_at ws m) (read_value vs m v.0 v.1 ∙ i ∙ sym (read_value ws m w.0 w.1))
 
   -- the lines of the variables that changed
   pub changes_named : (old new : List Value) (xs : List VarId) → length old ≡ length new → AreChanges old new xs
-      → texts_of (λ m. one m (value_at new m)) (numbers xs) ≡ changes_from one 0 old new
+      → numbered_texts (λ m. one m (valuation_at new m)) (changed_numbers xs) ≡ changes_from one 0 old new
   changes_named old new xs long are =
-      sym (changes_texts old new (numbers xs) long are.ascend within all
-      ∙ texts_same (λ m. change_text one m (value_at old m) (value_at new m)) (λ m. one m (value_at new m))
-      (numbers xs) (λ m o. differs m ((are.each m).0 o)))
+      sym (changes_texts old new (changed_numbers xs) long are.ascend within all
+      ∙ texts_same (λ m. change_text one m (valuation_at old m) (valuation_at new m)) (λ m. one m (valuation_at new m))
+      (changed_numbers xs) (λ m o. differs m ((are.each m).0 o)))
     where
-      within : (m : ℕ) → IsOneOf (numbers xs) m → m < length old
+      within : (m : ℕ) → IsOneOf (changed_numbers xs) m → m < length old
       within m o = let h = (are.each m).0 o in stands_within old m h.before h.had
 
-      all : (m : ℕ) (v w : Value) → Stands old m v → Stands new m w → (v ≡ w → ⊥) → IsOneOf (numbers xs) m
+      all : (m : ℕ) (v w : Value) → Stands old m v → Stands new m w → (v ≡ w → ⊥) → IsOneOf (changed_numbers xs) m
       all m v w s t differ = (are.each m).1 (record { before = v; after = w; had = s; has = t; differ = differ })
 
       differs : (m : ℕ) → HasChanged old new m
-          → change_text one m (value_at old m) (value_at new m) ≡ one m (value_at new m)
-      differs m h = changed m (value_at old m) (value_at new m)
+          → change_text one m (valuation_at old m) (valuation_at new m) ≡ one m (valuation_at new m)
+      differs m h = changed m (valuation_at old m) (valuation_at new m)
           (λ e. h.differ (sym (read_value old m h.before h.had) ∙ e ∙ read_value new m h.after h.has))
 
 -- lists with the same values
-same_lists : (xs ys : List Value) → length xs ≡ length ys → ((n : ℕ) → value_at xs n ≡ value_at ys n) → xs ≡ ys
+same_lists : (xs ys : List Value) → length xs ≡ length ys → ((n : ℕ) → valuation_at xs n ≡ valuation_at ys n) → xs ≡ ys
 same_lists [] [] e same = refl
 same_lists [] (y ∷ ys) e same = absurd (omega (arith, e))
 same_lists (x ∷ xs) [] e same = absurd (omega (arith, e))
@@ -148,7 +148,7 @@ same_lists (x ∷ xs) (y ∷ ys) e same =
 -- the values are those of the next valuation, but for these variables
 pub record AreBut (values next : List Value) (left : List VarId) : Type 0 where
   pub long : length values ≡ length next
-  pub same : (n : ℕ) → (IsOneOf (numbers left) n → ⊥) → value_at values n ≡ value_at next n
+  pub same : (n : ℕ) → (IsOneOf (changed_numbers left) n → ⊥) → valuation_at values n ≡ valuation_at next n
 
 pub but_changed : (old new : List Value) (xs : List VarId) → length old ≡ length new → AreChanges old new xs
     → AreBut old new xs
@@ -158,20 +158,20 @@ but_changed old new xs long are = record
 pub but_none : (values next : List Value) (left : List VarId) → left ≡ [] → AreBut values next left → values ≡ next
 but_none values next left e are = same_lists values next are.long (λ n. are.same n (λ o. nothing left e o))
   where
-    nothing : (left : List VarId) → left ≡ [] → {n : ℕ} → IsOneOf (numbers left) n → ⊥
-    nothing left e {n = n} o = let k = subst (λ (z : List VarId). IsOneOf (numbers z) n) e o in stands_none k.place n k.stands
+    nothing : (left : List VarId) → left ≡ [] → {n : ℕ} → IsOneOf (changed_numbers left) n → ⊥
+    nothing left e {n = n} o = let k = subst (λ (z : List VarId). IsOneOf (changed_numbers z) n) e o in stands_none k.place n k.stands
 
 set_long : (xs : List Value) (n : ℕ) (v : Value) → length (set xs n v) ≡ length xs
 set_long [] n v = refl
 set_long (x ∷ xs) zero v = refl
 set_long (x ∷ xs) (suc n) v = ap suc (set_long xs n v)
 
-set_here : (xs : List Value) (n : ℕ) (v : Value) → n < length xs → value_at (set xs n v) n ≡ v
+set_here : (xs : List Value) (n : ℕ) (v : Value) → n < length xs → valuation_at (set xs n v) n ≡ v
 set_here [] n v h = absurd (omega (arith, h))
 set_here (x ∷ xs) zero v h = refl
 set_here (x ∷ xs) (suc n) v h = set_here xs n v (omega (arith, h))
 
-set_other : (xs : List Value) (n m : ℕ) (v : Value) → (m ≡ n → ⊥) → value_at (set xs n v) m ≡ value_at xs m
+set_other : (xs : List Value) (n m : ℕ) (v : Value) → (m ≡ n → ⊥) → valuation_at (set xs n v) m ≡ valuation_at xs m
 set_other [] n m v h = refl
 set_other (x ∷ xs) zero zero v h = absurd (h refl)
 set_other (x ∷ xs) zero (suc m) v h = refl
@@ -186,23 +186,23 @@ but_next values next x left v h s are = record {
   same = λ n lacks. at n lacks (three n x.n);
 }
   where
-    other : (n : ℕ) → (IsOneOf (numbers left) n → ⊥) → (n ≡ x.n → ⊥) → value_at (set values x.n v) n ≡ value_at next n
+    other : (n : ℕ) → (IsOneOf (changed_numbers left) n → ⊥) → (n ≡ x.n → ⊥) → valuation_at (set values x.n v) n ≡ valuation_at next n
     other n lacks f = set_other values x.n n v f
-        ∙ are.same n (λ o. elim (one_cases x.n (numbers left) n o) [ inl e ↦ f (sym e) | inr r ↦ lacks r ])
+        ∙ are.same n (λ o. elim (one_cases x.n (changed_numbers left) n o) [ inl e ↦ f (sym e) | inr r ↦ lacks r ])
 
-    at : (n : ℕ) → (IsOneOf (numbers left) n → ⊥) → (n < x.n) ⊎ ((n ≡ x.n) ⊎ (x.n < n))
-        → value_at (set values x.n v) n ≡ value_at next n
+    at : (n : ℕ) → (IsOneOf (changed_numbers left) n → ⊥) → (n < x.n) ⊎ ((n ≡ x.n) ⊎ (x.n < n))
+        → valuation_at (set values x.n v) n ≡ valuation_at next n
     at n lacks (inl l) = other n lacks (λ e. omega (arith, l, e))
     at n lacks (inr (inr l)) = other n lacks (λ e. omega (arith, l, e))
-    at n lacks (inr (inl e)) = ap (λ m. value_at (set values x.n v) m) e ∙ set_here values x.n v h
-        ∙ sym (read_value next x.n v s) ∙ ap (value_at next) (sym e)
+    at n lacks (inr (inl e)) = ap (λ m. valuation_at (set values x.n v) m) e ∙ set_here values x.n v h
+        ∙ sym (read_value next x.n v s) ∙ ap (valuation_at next) (sym e)
 
 -- a variable that changed has its number below
 pub changed_within : (old new : List Value) (xs : List VarId) (i : ℕ) (d : VarId) → AreChanges old new xs
     → i < length xs → (get_or xs i d).n < length new
 changed_within old new xs i d are h =
-    let o : IsOneOf (numbers xs) (get_or xs i d).n =
-    one_here (numbers xs) i (get_or xs i d).n
+    let o : IsOneOf (changed_numbers xs) (get_or xs i d).n =
+    one_here (changed_numbers xs) i (get_or xs i d).n
     (stands_map (λ (x : VarId). x.n) xs i (get_or xs i d) (stands_get xs i d h)) in
     let c = (are.each (get_or xs i d).n).0 o in
     stands_within new (get_or xs i d).n c.after c.has

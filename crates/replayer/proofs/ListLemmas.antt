@@ -27,8 +27,8 @@ use Rattle.gts_core.specs.Sound.{IsSound, IsListedWay}
 use Rattle.gts_core.specs.declared.system.Event.{Event}
 use Rattle.gts_core.specs.declared.system.GtsParts.{GtsParts}
 use Rattle.gts_flatten.specs.Flat.{naming_of_parts}
-use Rattle.text_pieces.specs.WayLabels.{label_of, label_found, way_label}
-use Rattle.replayer.specs.Listing.{AreAnswers, AreInside, visible_ways, able, AreReady}
+use Rattle.text_pieces.specs.WayLabels.{numbered_label, way_label_found, way_label}
+use Rattle.replayer.specs.Listing.{AreAnswers, AreInside, visible_ways, able, AreReadyWays}
 use Rattle.replayer.specs.Printing.{way_lines}
 use Rattle.text_pieces.proofs.Ways.{label_alike}
 
@@ -93,8 +93,8 @@ module _ (p : GtsParts) (sys : s.System ℕ) (views : Views p sys) (t : List Val
 
   module _ (sound : IsSound p) where
     -- the label of the way at place k of event e
-    listed_label : (e k : ℕ) (n : WayId) → IsListedWay p e k n → label_of p n.n ≡ record { event = e; way = k }
-    listed_label e k n is = ap label_found is.stands
+    listed_label : (e k : ℕ) (n : WayId) → IsListedWay p e k n → numbered_label p n.n ≡ record { event = e; way = k }
+    listed_label e k n is = ap way_label_found is.stands
         ∙ made is.way.event.n (is.way.number - 1) is.event (omega (arith, is.number))
       where
         made : (a b : ℕ) → a ≡ e → b ≡ k → ◌≡◌ {A = Label} (record { event = a; way = b })
@@ -258,7 +258,7 @@ filter_one f (v ∷ ws) w o = by (f v) (filter_one f ws w) o
     ]
     by false rest q = one_rest v ws w (rest q)
 
-pub ready_inside : (p : GtsParts) → IsSound p → (t : List Value) (ways : List WayId) → AreReady p t ways
+pub ready_inside : (p : GtsParts) → IsSound p → (t : List Value) (ways : List WayId) → AreReadyWays p t ways
     → AreInside p ways
 ready_inside p sound t ways h = record {
   each = λ k w s.

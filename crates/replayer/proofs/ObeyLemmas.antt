@@ -2,7 +2,7 @@
 use Rattle.std.proofs.Common.{◌≡◌, ◌<◌, ℕ, List, [], ◌∷◌, ◌++◌, codes, length, Result, Err, refl, sym, subst}
 use Rattle.ar_base.specs.Texts.{line}
 use Rattle.ar_io.specs.Writing.{SinkState}
-use Rattle.ar_io.specs.WritingInside.{Writes}
+use Rattle.ar_io.specs.Handing.{Writes}
 use Rattle.ar_io.specs.declared.outside.SinkFailed.{SinkFailed}
 use Rattle.ar_io.proofs.Writing.{front_longer, front_nothing}
 use Rattle.domains.specs.declared.Value.{Value}
@@ -20,8 +20,8 @@ use Rattle.gts_flatten.specs.Flat.{naming_of_parts}
 use Rattle.stepper.specs.Steps.{Standing, IsStepFault}
 use Rattle.stepper.specs.declared.faults.StepFault.{StepFault}
 use Rattle.stepper.specs.declared.faults.StepFault.TheVariants as fault
-use Rattle.text_pieces.specs.WayLabels.{label_of, way_label}
-use Rattle.replayer.specs.Playing.{AreTotal, Follows, Answers, stops, write, memory, IsRefusal}
+use Rattle.text_pieces.specs.WayLabels.{numbered_label, way_label}
+use Rattle.replayer.specs.Playing.{AreTotal, Follows, AnswersOneCommand, stops, write, memory, IsReplayRefusal}
 use Rattle.replayer.specs.Playing as refusal
 use Rattle.replayer.specs.Listing.{visible_ways, able}
 use Rattle.replayer.specs.Printing.{values_text, changes_text, way_lines}
@@ -43,7 +43,7 @@ module _ (p : GtsParts) (sound : IsSound p) (sys : s.System ℕ) (views : Views 
       → ((cs : List Command) (more : List ℕ) (end : End) → Follows (naming_of_parts p) sys below t cs more end
       → Follows (naming_of_parts p) sys before.below before.values (c ∷ cs) (text ++ more) end)
       → AreTotal p below → IsTotal p t → Writes old new text (Err e)
-      → Answers (naming_of_parts p) sys before any c old new (Err Write)
+      → AnswersOneCommand (naming_of_parts p) sys before any c old new (Err Write)
   on_cut below t text on totals total w =
       write (λ cs h.
       let f = going p sound sys views below t cs totals total (later h) in
@@ -57,13 +57,13 @@ module _ (p : GtsParts) (sound : IsSound p) (sys : s.System ℕ) (views : Views 
   -- the run stops behind the text
   pub stop_cut : {before any : Standing} {c : Command} {old new : SinkState} {e : SinkFailed} (text : List ℕ)
       → ((cs : List Command) → Follows (naming_of_parts p) sys before.below before.values (c ∷ cs) text Fault)
-      → Writes old new text (Err e) → Answers (naming_of_parts p) sys before any c old new (Err Write)
+      → Writes old new text (Err e) → AnswersOneCommand (naming_of_parts p) sys before any c old new (Err Write)
   stop_cut text stop w = write (λ cs h. record { text = text; end = Fault; follows = stop cs; front = w.front }) w.rose
 
   -- nothing is written
   pub out_of_memory : {before any : Standing} {c : Command} {old : SinkState} → AreTotal p before.below
       → IsTotal p before.values
-      → Answers (naming_of_parts p) sys before any c old old (Err Memory)
+      → AnswersOneCommand (naming_of_parts p) sys before any c old old (Err Memory)
   out_of_memory {before = before} {c = c} {old = old} totals total =
       memory (λ cs h.
       let f = going p sound sys views before.below before.values (c ∷ cs) totals total h in
@@ -86,7 +86,7 @@ module _ (p : GtsParts) (sound : IsSound p) (sys : s.System ℕ) (views : Views 
         → IsTotal p before.values → IsTotal p after.values
         → (cs : List Command) (more : List ℕ) (end : End)
         → Follows (naming_of_parts p) sys after.below after.values cs more end
-        → Follows (naming_of_parts p) sys before.below before.values (Fire (label_of p n) ∷ cs)
+        → Follows (naming_of_parts p) sys before.below before.values (Fire (numbered_label p n) ∷ cs)
         (fire_text before.values after.values ++ more) end
     fire_on before after same below step old new cs more end f =
         let named = way_named p sys views sound n inside in
@@ -94,10 +94,10 @@ module _ (p : GtsParts) (sound : IsSound p) (sys : s.System ℕ) (views : Views 
         → Step (net_of q) before.values w (Next after.values)) same step in
         let done = subst (λ (net : s.Net ℕ). Step net before.values named.way (Next after.values)) (sym views.net)
         (own named.way named.is_at) in
-        subst (λ (l : List ℕ). Follows (naming_of_parts p) sys before.below before.values (Fire (label_of p n) ∷ cs)
+        subst (λ (l : List ℕ). Follows (naming_of_parts p) sys before.below before.values (Fire (numbered_label p n) ∷ cs)
         ((line (codes "fire " ++ l) ++ changes_text p before.values after.values) ++ more) end)
         (label_alike p sys views n)
-        (fires_so p sound sys views before.below before.values after.values (label_of p n) named.way named.is_way done
+        (fires_so p sound sys views before.below before.values after.values (numbered_label p n) named.way named.is_way done
         old new cs more end
         (subst (λ (b : List (List Value)). Follows (naming_of_parts p) sys b after.values cs more end) below f))
 
@@ -108,22 +108,22 @@ module _ (p : GtsParts) (sound : IsSound p) (sys : s.System ℕ) (views : Views 
     pub fails_as : (before : Standing) → (f : StepFault) (g : steps.StepFault)
         → step_fault_text (naming_of_parts p) g ≡ step_text p f
         → ((w : s.Way ℕ) → IsWayAt p n w → Step (net_of p) before.values w (Refused g))
-        → (cs : List Command) → Follows (naming_of_parts p) sys before.below before.values (Fire (label_of p n) ∷ cs)
+        → (cs : List Command) → Follows (naming_of_parts p) sys before.below before.values (Fire (numbered_label p n) ∷ cs)
         (fault_text f) Fault
     fails_as before f g e step cs =
         let named = way_named p sys views sound n inside in
         let done = subst (λ (net : s.Net ℕ). Step net before.values named.way (Refused g)) (sym views.net)
         (step named.way named.is_at) in
-        subst (λ (t : List ℕ). Follows (naming_of_parts p) sys before.below before.values (Fire (label_of p n) ∷ cs)
+        subst (λ (t : List ℕ). Follows (naming_of_parts p) sys before.below before.values (Fire (numbered_label p n) ∷ cs)
         (line (codes "fault: " ++ (way_label p n ++ (codes ": " ++ t)))) Fault) e
-        (subst (λ (l : List ℕ). Follows (naming_of_parts p) sys before.below before.values (Fire (label_of p n) ∷ cs)
+        (subst (λ (l : List ℕ). Follows (naming_of_parts p) sys before.below before.values (Fire (numbered_label p n) ∷ cs)
         (line (codes "fault: " ++ (l ++ (codes ": " ++ step_fault_text (naming_of_parts p) g)))) Fault)
         (label_alike p sys views n)
-        (fails_so p sound sys views before.below before.values (label_of p n) named.way g named.is_way done cs))
+        (fails_so p sound sys views before.below before.values (numbered_label p n) named.way g named.is_way done cs))
 
     pub fire_fails : (before : Standing) → before.system ≡ p → (f : StepFault) → (f ≡ fault.Memory → ⊥)
         → ((w : s.Way ℕ) → IsWayAt before.system n w → IsStepFault (net_of before.system) before.values w f)
-        → (cs : List Command) → Follows (naming_of_parts p) sys before.below before.values (Fire (label_of p n) ∷ cs)
+        → (cs : List Command) → Follows (naming_of_parts p) sys before.below before.values (Fire (numbered_label p n) ∷ cs)
         (fault_text f) Fault
     fire_fails before same f some is =
         go f some (subst (λ (q : GtsParts). (w : s.Way ℕ) → IsWayAt q n w → IsStepFault (net_of q) before.values w f)
@@ -132,7 +132,7 @@ module _ (p : GtsParts) (sound : IsSound p) (sys : s.System ℕ) (views : Views 
         go : (f : StepFault) → (f ≡ fault.Memory → ⊥)
             → ((w : s.Way ℕ) → IsWayAt p n w → IsStepFault (net_of p) before.values w f)
             → (cs : List Command) → Follows (naming_of_parts p) sys before.below before.values
-            (Fire (label_of p n) ∷ cs) (fault_text f) Fault
+            (Fire (numbered_label p n) ∷ cs) (fault_text f) Fault
         go fault.NotEnabled some is cs = fails_as before fault.NotEnabled steps.NotEnabled refl is cs
         go (fault.Clash x) some is cs = fails_as before (fault.Clash x) (steps.Clash x.n) refl is cs
         go (fault.Range x) some is cs = fails_as before (fault.Range x) (steps.Range x.n) refl is cs
@@ -180,10 +180,10 @@ module _ (p : GtsParts) (sound : IsSound p) (sys : s.System ℕ) (views : Views 
   pub refused : (n : ℕ) (inside : n < length p.ways.items) (before after : Standing) (f : StepFault) → before.system ≡ p
       → ((w : s.Way ℕ) → IsWayAt before.system n w → IsStepFault (net_of before.system) before.values w f)
       → AreTotal p before.below → IsTotal p before.values
-      → {old new : SinkState} {r : Result End ReplayFault} → IsRefusal p n f old new r
-      → Answers (naming_of_parts p) sys before after (Fire (label_of p n)) old new r
+      → {old new : SinkState} {r : Result End ReplayFault} → IsReplayRefusal p n f old new r
+      → AnswersOneCommand (naming_of_parts p) sys before after (Fire (numbered_label p n)) old new r
   refused n inside before after f same is totals total {old = old} {new = new} (refusal.memory e i) =
-      subst (λ (z : SinkState). Answers (naming_of_parts p) sys before after (Fire (label_of p n)) old z (Err Memory)) i
+      subst (λ (z : SinkState). AnswersOneCommand (naming_of_parts p) sys before after (Fire (numbered_label p n)) old z (Err Memory)) i
       (out_of_memory totals total)
   refused n inside before after f same is totals total (refusal.told some w) =
       stops w (fire_fails n inside before same f some is)
@@ -193,11 +193,11 @@ module _ (p : GtsParts) (sound : IsSound p) (sys : s.System ℕ) (views : Views 
 -- the answer that was passed on
 pub answers_as : {names : Naming} {sys : s.System ℕ} {before after : Standing} {c : Command} {old new : SinkState}
     {r q : Result End ReplayFault}
-    → r ≡ q → Answers names sys before after c old new q → Answers names sys before after c old new r
+    → r ≡ q → AnswersOneCommand names sys before after c old new q → AnswersOneCommand names sys before after c old new r
 answers_as {names = names} {sys = sys} {before = before} {after = after} {c = c} {old = old} {new = new} e h =
-    subst (λ (z : Result End ReplayFault). Answers names sys before after c old new z) (sym e) h
+    subst (λ (z : Result End ReplayFault). AnswersOneCommand names sys before after c old new z) (sym e) h
 
 pub refusal_as : {p : GtsParts} {n : ℕ} {f : StepFault} {old new : SinkState} {r q : Result End ReplayFault} → r ≡ q
-    → IsRefusal p n f old new q → IsRefusal p n f old new r
+    → IsReplayRefusal p n f old new q → IsReplayRefusal p n f old new r
 refusal_as {p = p} {n = n} {f = f} {old = old} {new = new} e h =
-    subst (λ (z : Result End ReplayFault). IsRefusal p n f old new z) (sym e) h
+    subst (λ (z : Result End ReplayFault). IsReplayRefusal p n f old new z) (sym e) h

@@ -12,20 +12,20 @@ use Rattle.typed_expr.specs.Mentions.{Mentions}
 use Rattle.typed_expr.specs.declared.expr.Expr.{out-Expr}
 use Rattle.ar_meaning.specs.TraceText.{variable_line, observer_line}
 use Rattle.gts_core.specs.Sound.{IsSound}
-use Rattle.gts_core.specs.Readings.{IsTotal, value_at, value_in}
+use Rattle.gts_core.specs.Readings.{IsTotal, valuation_at, value_in}
 use Rattle.gts_core.specs.declared.system.GtsParts.{GtsParts}
 use Rattle.gts_core.specs.declared.system.Observer.{Observer}
 use Rattle.gts_flatten.specs.Flat.{naming_of_parts}
 use Rattle.flow_propagate.specs.Named.{AddsNamed}
-use Rattle.value_changes.specs.Changes.{numbers, AreChanges}
+use Rattle.value_changes.specs.Changes.{changed_numbers, AreChanges}
 use Rattle.way_flags.proofs.SameReadings.{same_in}
 use Rattle.replayer.specs.Observing.{Observes, AreObserved, AreInOrder, AreTouched}
-use Rattle.replayer.specs.Printing.{seen_by, observed_value, observer_value, texts_of, change_text, changes_from, observer_changes, changes_text}
+use Rattle.replayer.specs.Printing.{seen_by, observed_value, observer_value, numbered_texts, change_text, changes_from, observer_changes, changes_text}
 use Rattle.replayer.proofs.ChangeLemmas.{changes_texts, changes_named, texts_same}
 use Rattle.replayer.proofs.ValueLemmas.{changes_alike}
 use Rattle.stepper.proofs.Kept.{kept_value}
 
-seen_at : (os : List Observer) (t : List Value) (n : ℕ) → value_at (seen_by os t) n ≡ observed_value (slice_get os n) t
+seen_at : (os : List Observer) (t : List Value) (n : ℕ) → valuation_at (seen_by os t) n ≡ observed_value (slice_get os n) t
 seen_at [] t zero = refl
 seen_at [] t (suc n) = refl
 seen_at (o ∷ os) t zero = refl
@@ -43,11 +43,11 @@ observer_text p old new n = change_text (observer_line (naming_of_parts p)) n (o
 -- the lines of what changed are those of the variables that changed, and of the observers that name one of them
 pub changes_looked : (p : GtsParts) → IsSound p → (old new : List Value) → IsTotal p old → IsTotal p new
     → (xs : List VarId) → AreChanges old new xs → (ns : List ℕ) → AreTouched p xs ns
-    → texts_of (λ n. variable_line (naming_of_parts p) n (value_at new n)) (numbers xs)
-    ++ texts_of (observer_text p old new) ns
+    → numbered_texts (λ n. variable_line (naming_of_parts p) n (valuation_at new n)) (changed_numbers xs)
+    ++ numbered_texts (observer_text p old new) ns
     ≡ changes_text p old new
 changes_looked p sound old new before after xs are ns touched =
-    ap (λ z. z ++ texts_of (observer_text p old new) ns)
+    ap (λ z. z ++ numbered_texts (observer_text p old new) ns)
     (changes_named (variable_line (naming_of_parts p)) old new xs long are)
     ∙ ap (λ z. changes_from (variable_line (naming_of_parts p)) 0 old new ++ z) (sym observers)
   where
@@ -86,14 +86,14 @@ changes_looked p sound old new before after xs are ns touched =
               observes = record { observer = was.0; stands = was.1; variable = x; is = refl; names = d };
             }))))
 
-    observers : observer_changes p old new 0 os ≡ texts_of (observer_text p old new) ns
+    observers : observer_changes p old new 0 os ≡ numbered_texts (observer_text p old new) ns
     observers =
         sym (changes_alike p old new 0 os)
         ∙ changes_texts one (seen_by os old) (seen_by os new) ns (seen_count os old ∙ sym (seen_count os new))
         touched.ascend within among
-        ∙ texts_same (λ m. change_text one m (value_at (seen_by os old) m) (value_at (seen_by os new) m))
+        ∙ texts_same (λ m. change_text one m (valuation_at (seen_by os old) m) (valuation_at (seen_by os new) m))
         (observer_text p old new) ns
-        (λ m o. ap (λ z. change_text one m z (value_at (seen_by os new) m)) (seen_at os old m)
+        (λ m o. ap (λ z. change_text one m z (valuation_at (seen_by os new) m)) (seen_at os old m)
         ∙ ap (λ z. change_text one m (observer_value p old m) z) (seen_at os new m))
 
 -- the pairs of the observers

@@ -2,7 +2,7 @@
 use Rattle.std.proofs.Common.{◌≡◌, ℕ, List, [], ◌∷◌, ◌++◌, codes, decimal, length, Result, Ok, Err, refl, sym, ◌∙◌, subst, append_assoc}
 use Rattle.ar_base.specs.Texts.{line}
 use Rattle.ar_io.specs.Writing.{SinkState}
-use Rattle.ar_io.specs.WritingInside.{Writes}
+use Rattle.ar_io.specs.Handing.{Writes}
 use Rattle.ar_io.specs.declared.outside.SinkFailed.{SinkFailed}
 use Rattle.ar_io.proofs.Writing.{front_longer, front_more, front_nothing, writes_on, rose_after}
 use Rattle.domains.specs.declared.Value.{Value}
@@ -17,7 +17,7 @@ use Rattle.gts_core.specs.Readings.{IsTotal}
 use Rattle.gts_core.specs.declared.system.GtsParts.{GtsParts}
 use Rattle.gts_flatten.specs.Flat.{naming_of_parts}
 use Rattle.stepper.specs.Steps.{Standing}
-use Rattle.replayer.specs.Playing.{Follows, Answers, goes_on, stops, write, memory, IsPlayed}
+use Rattle.replayer.specs.Playing.{Follows, AnswersOneCommand, goes_on, stops, write, memory, IsPlayed}
 use Rattle.replayer.specs.Printing.{values_text}
 use Rattle.replayer.specs.Replays.{IsReplay}
 use Rattle.replayer.specs.ReplaysInside.{AnswersReplay, whole}
@@ -40,7 +40,7 @@ module _ {names : Naming} {sys : s.System ℕ} {all : List Command} where
   -- one command more
   pub obeyed_on : {at after : Standing} (c : Command) (left rest : List Command) {old now new : SinkState}
       → left ≡ c ∷ rest
-      → IsPlayed names sys all at left old now → Answers names sys at after c now new (Ok Done)
+      → IsPlayed names sys all at left old now → AnswersOneCommand names sys at after c now new (Ok Done)
       → IsPlayed names sys all after rest old new
   obeyed_on {at = at} {after = after} c left rest e p (goes_on {text = text} w on) = record {
     text = p.text ++ text;
@@ -56,7 +56,7 @@ module _ {names : Naming} {sys : s.System ℕ} {all : List Command} where
   -- a command that ends the run
   pub obeyed_stop : {at after : Standing} (c : Command) (left rest : List Command) {old now new : SinkState}
       → left ≡ c ∷ rest
-      → IsPlayed names sys all at left old now → Answers names sys at after c now new (Ok Fault)
+      → IsPlayed names sys all at left old now → AnswersOneCommand names sys at after c now new (Ok Fault)
       → AnswersReplay names sys all old new (Ok Fault)
   obeyed_stop {at = at} c left rest e p (stops {text = text} w stop) =
       let done = writes_on p.writes w in
@@ -66,7 +66,7 @@ module _ {names : Naming} {sys : s.System ℕ} {all : List Command} where
   -- a command that is broken off
   pub obeyed_err : {at after : Standing} (c : Command) (left rest : List Command) {old now new : SinkState}
       (f : ReplayFault) → left ≡ c ∷ rest
-      → IsPlayed names sys all at left old now → Answers names sys at after c now new (Err f)
+      → IsPlayed names sys all at left old now → AnswersOneCommand names sys at after c now new (Err f)
       → AnswersReplay names sys all old new (Err f)
   obeyed_err {at = at} c left rest {old = old} {now = now} {new = new} Write e p (write broken rose) =
       let b = broken rest (subst (λ (z : List Command). FiresWays sys z) e p.fires) in

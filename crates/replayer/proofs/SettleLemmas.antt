@@ -2,7 +2,7 @@
 use Rattle.std.proofs.Common.{◌≡◌, ◌<◌, ℕ, List, [], ◌∷◌, ◌++◌, codes, length, Option, None, Result, Ok, Err, refl, sym, ◌∙◌, ap, subst, append_assoc}
 use Rattle.ar_base.specs.Texts.{line}
 use Rattle.ar_io.specs.Writing.{SinkState}
-use Rattle.ar_io.specs.WritingInside.{Writes}
+use Rattle.ar_io.specs.Handing.{Writes}
 use Rattle.domains.specs.declared.Value.{Value}
 use Rattle.ar_meaning.specs.Systems as s
 use Rattle.ar_meaning.specs.Flows.{FlowFault}
@@ -21,14 +21,14 @@ use Rattle.gts_flatten.specs.Flat.{naming_of_parts}
 use Rattle.stepper.specs.Steps.{Standing, IsStepFault}
 use Rattle.stepper.specs.declared.faults.StepFault.{StepFault}
 use Rattle.stepper.specs.declared.faults.StepFault.TheVariants as fault
-use Rattle.text_pieces.specs.WayLabels.{label_of, way_label}
-use Rattle.replayer.specs.Playing.{IsRefusal}
+use Rattle.text_pieces.specs.WayLabels.{numbered_label, way_label}
+use Rattle.replayer.specs.Playing.{IsReplayRefusal}
 use Rattle.replayer.specs.Playing as refusal
 use Rattle.text_pieces.specs.Faults.{step_text}
 use Rattle.replayer.specs.Replays.{end_of}
 use Rattle.replayer.specs.Settles.{Settles, IsFaultLine, last_standing}
 use Rattle.replayer.specs.SettlesInside.{AnswersSettle}
-use Rattle.replayer.specs.Settling.{GoesOn, Stops, AnswersCommand, IsRunning}
+use Rattle.replayer.specs.Settling.{GoesOn, StopsCommand, AnswersCommand, IsRunning}
 use Rattle.replayer.specs.declared.replaying.End.{End}
 use Rattle.replayer.specs.declared.replaying.End.TheVariants.{Fault}
 use Rattle.replayer.specs.declared.replaying.ReplayFault.{ReplayFault}
@@ -41,7 +41,7 @@ module _ (p : GtsParts) (sound : IsSound p) (sys : s.System ℕ) (views : Views 
   pub fire_goes : (n : ℕ) → n < length p.ways.items → (before after : Standing) → before.system ≡ p
       → after.below ≡ before.values ∷ before.below
       → ((w : s.Way ℕ) → IsWayAt before.system n w → Step (net_of before.system) before.values w (Next after.values))
-      → GoesOn sys before after (Fire (label_of p n))
+      → GoesOn sys before after (Fire (numbered_label p n))
   fire_goes n inside before after same below step =
       let named = way_named p sys views sound n inside in
       let own = subst (λ (q : GtsParts). (w : s.Way ℕ) → IsWayAt q n w
@@ -49,7 +49,7 @@ module _ (p : GtsParts) (sound : IsSound p) (sys : s.System ℕ) (views : Views 
       let done = subst (λ (net : s.Net ℕ). Step net before.values named.way (Next after.values)) (sym views.net)
       (own named.way named.is_at) in
       record {
-        moment = Fires (label_of p n) before.values after.values;
+        moment = Fires (numbered_label p n) before.values after.values;
         goes = λ cs ms g. r.fires named.way named.is_way done
             (subst (λ (b : List (List Value)). Goes sys b after.values cs ms) below g);
         quiet = λ ms. refl;
@@ -63,26 +63,26 @@ module _ (p : GtsParts) (sound : IsSound p) (sys : s.System ℕ) (views : Views 
   stops_as : (n : ℕ) → n < length p.ways.items → (before : Standing) → (f : StepFault) (g : steps.StepFault)
       → step_fault_text (naming_of_parts p) g ≡ step_text p f
       → ((w : s.Way ℕ) → IsWayAt p n w → Step (net_of p) before.values w (Refused g))
-      → Stops (naming_of_parts p) sys before (Fire (label_of p n)) (fault_text n f)
+      → StopsCommand (naming_of_parts p) sys before (Fire (numbered_label p n)) (fault_text n f)
   stops_as n inside before f g e step =
       let named = way_named p sys views sound n inside in
       let done = subst (λ (net : s.Net ℕ). Step net before.values named.way (Refused g)) (sym views.net)
       (step named.way named.is_at) in
       record {
-        fault = Fire_fails (label_of p n) g;
+        fault = Fire_fails (numbered_label p n) g;
         goes = λ cs. r.fails named.way named.is_way done;
         is_fault = refl;
         told =
-            subst (λ (t : List ℕ). MomentText (naming_of_parts p) sys (Fire_fails (label_of p n) g)
+            subst (λ (t : List ℕ). MomentText (naming_of_parts p) sys (Fire_fails (numbered_label p n) g)
             (line (codes "fault: " ++ (way_label p n ++ (codes ": " ++ t))))) e
-            (subst (λ (l : List ℕ). MomentText (naming_of_parts p) sys (Fire_fails (label_of p n) g)
+            (subst (λ (l : List ℕ). MomentText (naming_of_parts p) sys (Fire_fails (numbered_label p n) g)
             (line (codes "fault: " ++ (l ++ (codes ": " ++ step_fault_text (naming_of_parts p) g)))))
             (label_alike p sys views n) tell.fire_fails);
       }
 
   fire_stops : (n : ℕ) → n < length p.ways.items → (before : Standing) (f : StepFault) → (f ≡ fault.Memory → ⊥)
       → ((w : s.Way ℕ) → IsWayAt p n w → IsStepFault (net_of p) before.values w f)
-      → Stops (naming_of_parts p) sys before (Fire (label_of p n)) (fault_text n f)
+      → StopsCommand (naming_of_parts p) sys before (Fire (numbered_label p n)) (fault_text n f)
   fire_stops n inside before fault.NotEnabled some is =
       stops_as n inside before fault.NotEnabled steps.NotEnabled refl is
   fire_stops n inside before (fault.Clash x) some is =
@@ -96,8 +96,8 @@ module _ (p : GtsParts) (sound : IsSound p) (sys : s.System ℕ) (views : Views 
   -- a way that was not fired
   pub refused : (n : ℕ) → n < length p.ways.items → (before after : Standing) (f : StepFault) → before.system ≡ p
       → ((w : s.Way ℕ) → IsWayAt before.system n w → IsStepFault (net_of before.system) before.values w f)
-      → {old new : SinkState} {r : Result End ReplayFault} → IsRefusal p n f old new r
-      → AnswersCommand (naming_of_parts p) sys before after (Fire (label_of p n)) old new r
+      → {old new : SinkState} {r : Result End ReplayFault} → IsReplayRefusal p n f old new r
+      → AnswersCommand (naming_of_parts p) sys before after (Fire (numbered_label p n)) old new r
   refused n inside before after f same is (refusal.memory e i) = sym i
   refused n inside before after f same is (refusal.told some w) =
       let own = subst (λ (q : GtsParts). (w : s.Way ℕ) → IsWayAt q n w → IsStepFault (net_of q) before.values w f) same
@@ -119,7 +119,7 @@ module _ (p : GtsParts) (sound : IsSound p) (sys : s.System ℕ) (views : Views 
   }
 
   pub back_stops : (before : Standing) → before.below ≡ []
-      → Stops (naming_of_parts p) sys before Back (line (codes "fault: back: no step"))
+      → StopsCommand (naming_of_parts p) sys before Back (line (codes "fault: back: no step"))
   back_stops before below = record {
     fault = No_step;
     goes = λ cs. subst (λ (b : List (List Value)). Goes sys b before.values (Back ∷ cs) (No_step ∷ [])) (sym below)
@@ -186,7 +186,7 @@ module _ {sys : s.System ℕ} {all : List Command} where
   -- the fault that the run ends in
   pub running_stops : {names : Naming} {at : Standing} (c : Command) (left rest : List Command) (text : List ℕ)
       → left ≡ c ∷ rest → IsRunning sys all at left
-      → Stops names sys at c text → IsFaultLine names sys all text
+      → StopsCommand names sys at c text → IsFaultLine names sys all text
   running_stops {at = at} c left rest text e h stop = record {
     before = Starts h.first ∷ h.done;
     fault = stop.fault;

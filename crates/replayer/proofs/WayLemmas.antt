@@ -9,10 +9,10 @@ use Rattle.ar_meaning.specs.RunsInside.{FiresWays}
 use Rattle.gts_core.specs.View.{Views}
 use Rattle.gts_core.specs.Sound.{IsSound}
 use Rattle.gts_core.specs.declared.system.GtsParts.{GtsParts}
-use Rattle.job_inputs.specs.Flat.{command_of, AreFirable, IsFirable}
+use Rattle.job_inputs.specs.Flat.{command_of, AreFirable, IsWayOfSystem}
 use Rattle.job_inputs.specs.declared.commands.Command.{Command}
 use Rattle.job_inputs.specs.declared.commands.Command.TheVariants as code
-use Rattle.text_pieces.specs.WayLabels.{label_of}
+use Rattle.text_pieces.specs.WayLabels.{numbered_label}
 use Rattle.text_pieces.proofs.Ways.{way_named}
 
 module _ (p : GtsParts) (sys : s.System ℕ) (views : Views p sys) where
@@ -20,7 +20,7 @@ module _ (p : GtsParts) (sys : s.System ℕ) (views : Views p sys) where
       → command_of p c ≡ Fire k → (w : s.Way ℕ) × IsWay sys k w
   fires_one sound (code.Fire w) k h e =
       let named = way_named p sys views sound w.n (h w refl) in
-      let same : label_of p w.n ≡ k = cc in
+      let same : numbered_label p w.n ≡ k = cc in
       (named.way, subst (λ (z : Label). IsWay sys z named.way) same named.is_way)
   fires_one sound code.Back k h e = absurd (cc e)
   fires_one sound code.Show k h e = absurd (cc e)
@@ -37,7 +37,7 @@ module _ (p : GtsParts) (sys : s.System ℕ) (views : Views p sys) where
 
 -- a command that stands among them
 pub firable_at : (p : GtsParts) (cs : List Command) (i : ℕ) (c : Command) → AreFirable p cs → Stands cs i c
-    → IsFirable p c
+    → IsWayOfSystem p c
 firable_at p cs i (code.Fire w) h s = h.each w (record { place = i; stands = s })
 firable_at p cs i code.Back h s = tt
 firable_at p cs i code.Show h s = tt

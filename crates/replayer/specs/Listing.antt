@@ -30,10 +30,10 @@ abbrev pub able : (ℕ → Bool) → List WayId → List WayId
 able can ways = filter (λ (w : WayId). can w.n) ways
 
 -- these are the visible ways that can fire under the valuation, by event and way
-pub record AreReady (p : GtsParts) (t : List Value) (ways : List WayId) : Type 0 where
+pub record AreReadyWays (p : GtsParts) (t : List Value) (ways : List WayId) : Type 0 where
   pub are : (can : ℕ → Bool) → AreAnswers p t can → ways ≡ able can (visible_ways p.events.items)
 
 -- the visible ways are known, and where those of them that can fire are found, these are they
-pub record IsReady (p : GtsParts) (t : List Value) (ready : Ready) : Type 0 where
+pub record IsListReady (p : GtsParts) (t : List Value) (ready : Ready) : Type 0 where
   pub visible : ready.visible.items ≡ visible_ways p.events.items
-  pub ways : ready.found ≡ true → AreReady p t ready.ways.items
+  pub ways : ready.found ≡ true → AreReadyWays p t ready.ways.items

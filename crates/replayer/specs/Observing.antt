@@ -10,8 +10,8 @@ use Rattle.domains.specs.declared.Value.{Value}
 use Rattle.gts_core.specs.Readings.{IsTotal}
 use Rattle.gts_core.specs.declared.system.GtsParts.{GtsParts}
 use Rattle.gts_core.specs.declared.system.Observer.{Observer}
-use Rattle.value_changes.specs.Changes.{numbers}
-use Rattle.replayer.specs.Listing.{IsReady}
+use Rattle.value_changes.specs.Changes.{changed_numbers}
+use Rattle.replayer.specs.Listing.{IsListReady}
 use Rattle.replayer.specs.declared.latest.Latest.{Latest}
 
 -- observer n names variable x
@@ -34,15 +34,15 @@ pub record AreInOrder (p : GtsParts) (pairs : List (ℕ × ℕ)) : Type 0 where
   pub ascending : IsNonDecreasingBy (λ (q : ℕ × ℕ). q.0) pairs
 
 -- observer n names one of these variables
-pub record NamesOne (p : GtsParts) (variables : List VarId) (n : ℕ) : Type 0 where
+pub record ObserverNamesOne (p : GtsParts) (variables : List VarId) (n : ℕ) : Type 0 where
   pub variable : ℕ
-  pub is_one : IsOneOf (numbers variables) variable
+  pub is_one : IsOneOf (changed_numbers variables) variable
   pub observes : Observes p variable n
 
 -- the observers that name one of these variables, ascending
 pub record AreTouched (p : GtsParts) (variables : List VarId) (all : List ℕ) : Type 0 where
   pub ascend : Ascends all
-  pub each : (n : ℕ) → (IsOneOf all n ↔ NamesOne p variables n)
+  pub each : (n : ℕ) → (IsOneOf all n ↔ ObserverNamesOne p variables n)
 
 -- the valuation that was told last is the present one, each variable's observers are known, and so are the visible
 -- ways that can fire, where they are found
@@ -50,4 +50,4 @@ pub record IsLatest (p : GtsParts) (t : List Value) (latest : Latest) : Type 0 w
   pub values : latest.values.items ≡ t
   pub total : IsTotal p t
   pub observed : AreInOrder p latest.observed.items
-  pub ready : IsReady p t latest.ready
+  pub ready : IsListReady p t latest.ready

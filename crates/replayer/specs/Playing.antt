@@ -5,7 +5,7 @@ use Rattle.ar_base.specs.Texts.{line}
 use Rattle.ar_io.specs.declared.outside.SinkFailed.{SinkFailed}
 use Rattle.ar_io.specs.Outside.{Rose}
 use Rattle.ar_io.specs.Writing.{SinkState, WroteFront}
-use Rattle.ar_io.specs.WritingInside.{Writes}
+use Rattle.ar_io.specs.Handing.{Writes}
 use Rattle.domains.specs.declared.Value.{Value}
 use Rattle.ar_meaning.specs.Systems.{System}
 use Rattle.ar_meaning.specs.Runs.{Command, Moment, Goes}
@@ -37,7 +37,7 @@ pub record Follows (names : Naming) (sys : System ℕ) (below : List (List Value
   pub ends : end ≡ end_of moments
 
 -- a command writes the first bytes of what follows, whatever comes behind it
-pub record IsBroken (names : Naming) (sys : System ℕ) (below : List (List Value)) (t : List Value) (c : Command)
+pub record IsCutShort (names : Naming) (sys : System ℕ) (below : List (List Value)) (t : List Value) (c : Command)
     (old new : SinkState) (cs : List Command) : Type 0 where
   pub text : List ℕ
   pub end : End
@@ -47,19 +47,19 @@ pub record IsBroken (names : Naming) (sys : System ℕ) (below : List (List Valu
 -- what one command answers: its text was written and the run goes on from the new standing, or ends in a fault; or the
 -- first bytes of what follows were written, where the sink's count of faults rose or memory was refused; the count is
 -- as it was but where it rose
-pub data Answers (names : Naming) (sys : System ℕ) (before after : Standing) (c : Command)
+pub data AnswersOneCommand (names : Naming) (sys : System ℕ) (before after : Standing) (c : Command)
     (old new : SinkState) : Result End ReplayFault → Type 0 where
   goes_on : {text : List ℕ} → Writes old new text (Ok tt)
       → ((cs : List Command) (more : List ℕ) (end : End) → Follows names sys after.below after.values cs more end
       → Follows names sys before.below before.values (c ∷ cs) (text ++ more) end)
-      → Answers names sys before after c old new (Ok Done)
+      → AnswersOneCommand names sys before after c old new (Ok Done)
   stops : {text : List ℕ} → Writes old new text (Ok tt)
       → ((cs : List Command) → Follows names sys before.below before.values (c ∷ cs) text Fault)
-      → Answers names sys before after c old new (Ok Fault)
-  write : ((cs : List Command) → FiresWays sys (c ∷ cs) → IsBroken names sys before.below before.values c old new cs)
-      → Rose old.faults new.faults → Answers names sys before after c old new (Err Write)
-  memory : ((cs : List Command) → FiresWays sys (c ∷ cs) → IsBroken names sys before.below before.values c old new cs)
-      → new.faults ≡ old.faults → Answers names sys before after c old new (Err Memory)
+      → AnswersOneCommand names sys before after c old new (Ok Fault)
+  write : ((cs : List Command) → FiresWays sys (c ∷ cs) → IsCutShort names sys before.below before.values c old new cs)
+      → Rose old.faults new.faults → AnswersOneCommand names sys before after c old new (Err Write)
+  memory : ((cs : List Command) → FiresWays sys (c ∷ cs) → IsCutShort names sys before.below before.values c old new cs)
+      → new.faults ≡ old.faults → AnswersOneCommand names sys before after c old new (Err Memory)
 
 -- so much of the replay of all commands is written, and what follows for those that are left is its rest
 pub record IsPlayed (names : Naming) (sys : System ℕ) (all : List Command) (at : Standing) (left : List Command)
@@ -75,8 +75,8 @@ abbrev pub refusal_text : GtsParts → ℕ → StepFault → List ℕ
 refusal_text p n f = line (codes "fault: " ++ (way_label p n ++ (codes ": " ++ step_text p f)))
 
 -- the fault is want of memory, and nothing is written; or it is another one, whose line is written, or first bytes of it
-pub data IsRefusal (p : GtsParts) (n : ℕ) (f : StepFault) (old new : SinkState) : Result End ReplayFault → Type 0 where
-  memory : f ≡ fault.Memory → old ≡ new → IsRefusal p n f old new (Err Memory)
-  told : (f ≡ fault.Memory → ⊥) → Writes old new (refusal_text p n f) (Ok tt) → IsRefusal p n f old new (Ok Fault)
+pub data IsReplayRefusal (p : GtsParts) (n : ℕ) (f : StepFault) (old new : SinkState) : Result End ReplayFault → Type 0 where
+  memory : f ≡ fault.Memory → old ≡ new → IsReplayRefusal p n f old new (Err Memory)
+  told : (f ≡ fault.Memory → ⊥) → Writes old new (refusal_text p n f) (Ok tt) → IsReplayRefusal p n f old new (Ok Fault)
   cut : {e : SinkFailed} → (f ≡ fault.Memory → ⊥) → Writes old new (refusal_text p n f) (Err e)
-      → IsRefusal p n f old new (Err Write)
+      → IsReplayRefusal p n f old new (Err Write)

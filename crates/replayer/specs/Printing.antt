@@ -35,9 +35,9 @@ abbrev pub observer_value : GtsParts → List Value → ℕ → Value
 observer_value p t n = observed_value (slice_get p.observers.items n) t
 
 -- the texts of these numbers
-abbrev pub texts_of : (ℕ → List ℕ) → List ℕ → List ℕ
-texts_of text [] = []
-texts_of text (n ∷ ns) = text n ++ texts_of text ns
+abbrev pub numbered_texts : (ℕ → List ℕ) → List ℕ → List ℕ
+numbered_texts text [] = []
+numbered_texts text (n ∷ ns) = text n ++ numbered_texts text ns
 
 -- the line of the new value, where it differs from the old one
 abbrev pub change_text : (ℕ → Value → List ℕ) → ℕ → Value → Value → List ℕ

@@ -2,7 +2,7 @@
 -- not rest on them.
 use Rattle.std.specs.Prelude.{◌≡◌, ℕ, List, Option, Some, None, Result, Ok, Err}
 use Rattle.ar_io.specs.Writing.{SinkState}
-use Rattle.ar_io.specs.WritingInside.{Writes}
+use Rattle.ar_io.specs.Handing.{Writes}
 use Rattle.ar_meaning.specs.Systems.{System}
 use Rattle.ar_meaning.specs.Runs.{Command}
 use Rattle.ar_meaning.specs.TraceText.{Naming}

@@ -1,7 +1,7 @@
 -- How far a run is, and what one command adds to it.
 use Rattle.std.specs.Prelude.{◌≡◌, ℕ, List, [], ◌∷◌, ◌++◌, Result, Ok, Err}
 use Rattle.ar_io.specs.Writing.{SinkState}
-use Rattle.ar_io.specs.WritingInside.{Writes}
+use Rattle.ar_io.specs.Handing.{Writes}
 use Rattle.domains.specs.declared.Value.{Value}
 use Rattle.ar_meaning.specs.Systems.{System}
 use Rattle.ar_meaning.specs.Runs.{Command, Moment, Starts, Goes, Runs}
@@ -23,7 +23,7 @@ pub record GoesOn (sys : System ℕ) (before after : Standing) (c : Command) : T
   pub last : (ms : List Moment) → last_standing before.values (moment ∷ ms) ≡ last_standing after.values ms
 
 -- the command meets a fault, of which this is the text
-pub record Stops (names : Naming) (sys : System ℕ) (before : Standing) (c : Command) (text : List ℕ) : Type 0 where
+pub record StopsCommand (names : Naming) (sys : System ℕ) (before : Standing) (c : Command) (text : List ℕ) : Type 0 where
   pub fault : Moment
   pub goes : (cs : List Command) → Goes sys before.below before.values (c ∷ cs) (fault ∷ [])
   pub is_fault : end_of (fault ∷ []) ≡ Fault
@@ -35,9 +35,9 @@ abbrev pub AnswersCommand : Naming → System ℕ → Standing → Standing → 
     → Result End ReplayFault → Type 0
 AnswersCommand names sys before after c old new (Ok Done) = GoesOn sys before after c × (new ≡ old)
 AnswersCommand names sys before after c old new (Ok Fault) =
-    (text : List ℕ) × Stops names sys before c text × Writes old new text (Ok tt)
+    (text : List ℕ) × StopsCommand names sys before c text × Writes old new text (Ok tt)
 AnswersCommand names sys before after c old new (Err Write) =
-    (text : List ℕ) × Stops names sys before c text × Writes old new text (Err (record {}))
+    (text : List ℕ) × StopsCommand names sys before c text × Writes old new text (Err (record {}))
 AnswersCommand names sys before after c old new (Err Memory) = new ≡ old
 
 -- the run of all these commands has come to this standing, without a fault, and these are left

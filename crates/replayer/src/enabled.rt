@@ -1,6 +1,6 @@
 //! The lines of ways.
 
-ghost use Rattle.ar_io.specs.WritingInside.{Writes};
+ghost use Rattle.ar_io.specs.Handing.{Writes};
 ghost use Rattle.replayer.specs.Listing.{AreInside};
 ghost use Rattle.replayer.specs.Printing.{way_lines};
 

@@ -3,7 +3,7 @@
 ghost use Rattle.std.specs.Prelude.{◌≡◌, length, IfOk};
 ghost use Rattle.gts_core.specs.Sound.{IsSound};
 ghost use Rattle.value_changes.specs.Changes.{AreChanges};
-ghost use Rattle.replayer.specs.Listing.{IsReady};
+ghost use Rattle.replayer.specs.Listing.{IsListReady};
 ghost use Rattle.replayer.specs.Observing.{AreInOrder};
 
 use crate::ready::{Ready, visible_ways};
@@ -31,7 +31,7 @@ pub(crate) fn at_start(alloc: Global, parts: &GtsParts, values: &[Value]) -> Res
     requires { IsSound parts.now }
     ensures values { IfOk result (λ latest. latest.values.items ≡ values.now) }
     ensures observed { IfOk result (λ latest. AreInOrder parts.now latest.observed.items) }
-    ensures ready { IfOk result (λ latest. IsReady parts.now values.now latest.ready) }
+    ensures ready { IfOk result (λ latest. IsListReady parts.now values.now latest.ready) }
 {
     let values = Vec::from_slice(alloc, values)?;
     let observed = observed(alloc, parts)?;

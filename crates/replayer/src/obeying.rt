@@ -5,9 +5,9 @@ ghost use Rattle.ar_meaning.specs.Systems.{System};
 ghost use Rattle.gts_core.specs.Sound.{IsSound};
 ghost use Rattle.gts_core.specs.View.{Views};
 ghost use Rattle.gts_flatten.specs.Flat.{naming_of_parts};
-ghost use Rattle.job_inputs.specs.Flat.{command_of, IsFirable};
+ghost use Rattle.job_inputs.specs.Flat.{command_of, IsWayOfSystem};
 ghost use Rattle.replayer.specs.Observing.{IsLatest};
-ghost use Rattle.replayer.specs.Playing.{AreTotal, Answers, IsRefusal};
+ghost use Rattle.replayer.specs.Playing.{AreTotal, AnswersOneCommand, IsReplayRefusal};
 ghost use Rattle.text_pieces.specs.Faults.{IsFaultInRange};
 ghost use Rattle.replayer.specs.declared.replaying.End.TheVariants.{Done};
 
@@ -36,13 +36,13 @@ pub(crate) fn obey<K: Sink>(
     requires same { stepper.old.system ≡ gts.now }
     requires below { AreTotal gts.now stepper.old.below }
     requires latest { IsLatest gts.now stepper.old.values latest.old }
-    requires firable { IsFirable gts.now command }
+    requires firable { IsWayOfSystem gts.now command }
     ensures system { stepper.new.system ≡ stepper.old.system }
     ensures below { OnOk result (AreTotal gts.now stepper.new.below) }
     ensures latest { IfOk result (λ end. end ≡ Done
         → IsLatest gts.now stepper.new.values latest.new) }
     ensures answers { (system : System ℕ) → Views gts.now system
-        → Answers (naming_of_parts gts.now) system stepper.old stepper.new
+        → AnswersOneCommand (naming_of_parts gts.now) system stepper.old stepper.new
         (command_of gts.now command) (K.state out.old) (K.state out.new) result }
 {
     match command {
@@ -79,7 +79,7 @@ fn fire<K: Sink>(
     ensures latest { IfOk result (λ end. end ≡ Done
         → IsLatest gts.now stepper.new.values latest.new) }
     ensures answers { (system : System ℕ) → Views gts.now system
-        → Answers (naming_of_parts gts.now) system stepper.old stepper.new
+        → AnswersOneCommand (naming_of_parts gts.now) system stepper.old stepper.new
         (command_of gts.now (Command.Fire way)) (K.state out.old) (K.state out.new) result }
 {
     match stepper.fire(way) {
@@ -105,7 +105,7 @@ pub(crate) fn refuse<K: Sink>(
 ) -> Result<End, ReplayFault>
     requires inside { way.n < length gts.now.ways.items }
     requires range { IsFaultInRange gts.now fault }
-    ensures { IsRefusal gts.now way.n fault (K.state out.old) (K.state out.new) result }
+    ensures { IsReplayRefusal gts.now way.n fault (K.state out.old) (K.state out.new) result }
 {
     match fault {
         StepFault::Memory => Err(ReplayFault::Memory),
@@ -133,7 +133,7 @@ fn back<K: Sink>(
     ensures latest { IfOk result (λ end. end ≡ Done
         → IsLatest gts.now stepper.new.values latest.new) }
     ensures answers { (system : System ℕ) → Views gts.now system
-        → Answers (naming_of_parts gts.now) system stepper.old stepper.new
+        → AnswersOneCommand (naming_of_parts gts.now) system stepper.old stepper.new
         (command_of gts.now Command.Back) (K.state out.old) (K.state out.new) result }
 {
     match stepper.back() {

@@ -2,7 +2,7 @@
 
 ghost use Rattle.std.specs.Prelude.{◌≡◌, ℕ, Bool, IfOk, OnOk};
 ghost use Rattle.gts_core.specs.Sound.{IsSound};
-ghost use Rattle.replayer.specs.Listing.{AreAnswers, AreInside, visible_ways, able, AreReady, IsReady};
+ghost use Rattle.replayer.specs.Listing.{AreAnswers, AreInside, visible_ways, able, AreReadyWays, IsListReady};
 
 use ar_base::{Memory, WayId};
 use gts_core::Event;
@@ -37,9 +37,9 @@ pub(crate) fn visible_ways(alloc: Global, events: &[Event]) -> Result<Vec<WayId>
 /// Finds the visible ways that can fire, where they are not found or a step came since.
 pub(crate) fn find(alloc: Global, stepper: &Stepper, ready: &mut Ready) -> Result<(), Memory>
     requires sound { IsSound stepper.now.system }
-    requires ready { IsReady stepper.now.system stepper.now.values ready.old }
-    ensures ready { OnOk result (IsReady stepper.now.system stepper.now.values ready.new) }
-    ensures found { OnOk result (AreReady stepper.now.system stepper.now.values
+    requires ready { IsListReady stepper.now.system stepper.now.values ready.old }
+    ensures ready { OnOk result (IsListReady stepper.now.system stepper.now.values ready.new) }
+    ensures found { OnOk result (AreReadyWays stepper.now.system stepper.now.values
         ready.new.ways.items) }
 {
     if ready.found {

@@ -7,7 +7,7 @@ ghost use Rattle.gts_core.specs.Readings.{IsTotal};
 ghost use Rattle.gts_core.specs.Sound.{IsSound};
 ghost use Rattle.gts_core.specs.View.{Views, net_of};
 ghost use Rattle.gts_flatten.specs.Flat.{naming_of_parts};
-ghost use Rattle.job_inputs.specs.Flat.{command_of, AreFirable, IsFirable};
+ghost use Rattle.job_inputs.specs.Flat.{command_of, AreFirable, IsWayOfSystem};
 ghost use Rattle.replayer.specs.SettlesInside.{AnswersSettle};
 ghost use Rattle.replayer.specs.Settling.{AnswersCommand};
 ghost use Rattle.stepper.specs.Steps.{IsStartFault};
@@ -113,7 +113,7 @@ fn take<K: Sink>(
 ) -> Result<End, ReplayFault>
     requires sound { IsSound gts.now }
     requires same { stepper.old.system ≡ gts.now }
-    requires firable { IsFirable gts.now command }
+    requires firable { IsWayOfSystem gts.now command }
     ensures system { stepper.new.system ≡ stepper.old.system }
     ensures answers { (system : System ℕ) → Views gts.now system
         → AnswersCommand (naming_of_parts gts.now) system stepper.old stepper.new

@@ -3,15 +3,15 @@
 
 ghost use Rattle.std.specs.Prelude.{◌≡◌, ◌<◌, ◌^◌, ◌++◌, codes, length, Some};
 ghost use Rattle.ar_base.specs.Texts.{line};
-ghost use Rattle.ar_io.specs.WritingInside.{Writes};
+ghost use Rattle.ar_io.specs.Handing.{Writes};
 ghost use Rattle.ar_meaning.specs.TraceText.{variable_line, observer_line, lines_from};
 ghost use Rattle.ar_meaning.specs.ValueTexts.{value_text};
-ghost use Rattle.gts_core.specs.Readings.{IsTotal, value_at};
+ghost use Rattle.gts_core.specs.Readings.{IsTotal, valuation_at};
 ghost use Rattle.gts_core.specs.Sound.{IsSound};
 ghost use Rattle.gts_flatten.specs.Flat.{naming_of_parts};
-ghost use Rattle.value_changes.specs.Changes.{numbers, AreChanges};
+ghost use Rattle.value_changes.specs.Changes.{changed_numbers, AreChanges};
 ghost use Rattle.replayer.specs.Observing.{AreTouched};
-ghost use Rattle.replayer.specs.Printing.{values_text, change_text, observer_lines, observer_value, texts_of, changes_text};
+ghost use Rattle.replayer.specs.Printing.{values_text, change_text, observer_lines, observer_value, numbered_texts, changes_text};
 
 use ar_base::VarId;
 use ar_io::{Sink, SinkFailed, write_text};
@@ -81,8 +81,8 @@ fn variable_changes<K: Sink>(
     changed: &[VarId],
 ) -> Result<(), SinkFailed>
     ensures { Writes (K.state out.old) (K.state out.new)
-        (texts_of (λ n. variable_line (naming_of_parts parts.now) n (value_at new.now n))
-        (numbers changed.now)) result }
+        (numbered_texts (λ n. variable_line (naming_of_parts parts.now) n (valuation_at new.now n))
+        (changed_numbers changed.now)) result }
 {
     for variable in changed {
         variable_line(out, parts, variable.n, value_at(new, variable.n as usize))?;
@@ -143,7 +143,7 @@ fn observer_changes<K: Sink>(
     touched: &[u32],
 ) -> Result<(), SinkFailed>
     ensures { Writes (K.state out.old) (K.state out.new)
-        (texts_of (λ n. change_text (observer_line (naming_of_parts parts.now)) n
+        (numbered_texts (λ n. change_text (observer_line (naming_of_parts parts.now)) n
         (observer_value parts.now old.now n) (observer_value parts.now new.now n)) touched.now)
         result }
 {

@@ -2,7 +2,7 @@
 
 ghost use Rattle.std.specs.Prelude.{◌≡◌, ◌<◌, ◌++◌, codes, decimal, length};
 ghost use Rattle.ar_base.specs.Texts.{line};
-ghost use Rattle.ar_io.specs.WritingInside.{Writes};
+ghost use Rattle.ar_io.specs.Handing.{Writes};
 ghost use Rattle.ar_meaning.specs.TraceText.{flow_fault_text};
 ghost use Rattle.flow_propagate.specs.Answers.{fault_of};
 ghost use Rattle.gts_core.specs.Readings.{IsTotal};

@@ -12,6 +12,23 @@ use clap::error::ErrorKind;
 use clap::{Arg, ArgAction, ArgMatches, Command};
 use std::alloc::{AllocError, Global};
 
+// What `clap` finds in the words, of which the first is the program's.
+pub(crate) fn matches<'a>(alloc: Global, words: &'a [&'a str]) -> Result<ArgMatches<'a>, JobFault>
+    ensures taken { IfOk result (λ m. fault_of program (map (λ w. w.now) words.now) ≡ []) }
+    ensures rows { IfOk result (λ m. rows_of (found_of m)
+        ≡ matches_of program (map (λ w. w.now) words.now)) }
+    ensures usage { result ≡ Err Usage → fault_of program (map (λ w. w.now) words.now) ≢ [] }
+{
+    let command = described(alloc)?;
+    match command.try_get_matches_from(words) {
+        Ok(matches) => Ok(matches),
+        Err(error) => match error.kind() {
+            ErrorKind::OutOfMemory => Err(JobFault::Memory),
+            _ => Err(JobFault::Usage),
+        },
+    }
+}
+
 // An option that takes one value.
 fn option<'a>(alloc: Global, name: &'a str) -> Arg<'a>
     ensures { rule_of result ≡ option name.entry.now }
@@ -46,23 +63,6 @@ fn described<'a>(alloc: Global) -> Result<Command<'a>, AllocError>
         .disable_help_flag(true)
         .disable_version_flag(true)
         .args(args)
-}
-
-// What `clap` finds in the words, of which the first is the program's.
-pub(crate) fn matches<'a>(alloc: Global, words: &'a [&'a str]) -> Result<ArgMatches<'a>, JobFault>
-    ensures taken { IfOk result (λ m. fault_of program (map (λ w. w.now) words.now) ≡ []) }
-    ensures rows { IfOk result (λ m. rows_of (found_of m)
-        ≡ matches_of program (map (λ w. w.now) words.now)) }
-    ensures usage { result ≡ Err Usage → fault_of program (map (λ w. w.now) words.now) ≢ [] }
-{
-    let command = described(alloc)?;
-    match command.try_get_matches_from(words) {
-        Ok(matches) => Ok(matches),
-        Err(error) => match error.kind() {
-            ErrorKind::OutOfMemory => Err(JobFault::Memory),
-            _ => Err(JobFault::Usage),
-        },
-    }
 }
 
 // What a command line says.

@@ -18,7 +18,7 @@ use Rattle.hierarchy.specs.Units.{UnitPath}
 use Rattle.hierarchy.specs.Settings.{TargetWord, Named, Init, Reset, same_word, same_target, target_of, setting_for, settings_of, settings_at}
 use Rattle.unit_rules.specs.Repeats.{code_of}
 use Rattle.unit_rules.proofs.Meeting.{codes_same}
-use Rattle.settings_in_force.specs.SettingPlaces.{SetsAt, SetsFrom, numbers_of, place_at, TellsAt, TellsFrom, AddsSettings, IsBehind, TellsFirst, TellsSettings}
+use Rattle.settings_in_force.specs.SettingPlaces.{SetsAt, SetsFrom, setting_numbers, setting_place, TellsAt, TellsFrom, AddsSettings, IsBehind, TellsFirst, TellsSettings}
 use Rattle.settings_in_force.specs.declared.setting_places.SettingPlaces.{SettingPlaces}
 
 -- Targets that are the same
@@ -64,7 +64,7 @@ target_itself (v ∷ vs) = by (same_word v v) (word_itself v) (target_itself vs)
     by false e f = cc
 
 -- the test of numbers is that of targets
-tests_same : (t : Site) (vs ws : List TargetWord) (a b : List ℕ) → a ≡ numbers_of t vs → b ≡ numbers_of t ws
+tests_same : (t : Site) (vs ws : List TargetWord) (a b : List ℕ) → a ≡ setting_numbers t vs → b ≡ setting_numbers t ws
     → same_target vs ws ≡ pointwise nat_eq a b
 tests_same t vs ws a b e f = by (same_target vs ws) (pointwise nat_eq a b) refl refl
   where
@@ -72,25 +72,25 @@ tests_same t vs ws a b e f = by (same_target vs ws) (pointwise nat_eq a b) refl 
     by true true i j = refl
     by false false i j = refl
     by true false i j =
-        let k : a ≡ b = e ∙ (ap (numbers_of t) (target_one vs ws i) ∙ sym f) in
+        let k : a ≡ b = e ∙ (ap (setting_numbers t) (target_one vs ws i) ∙ sym f) in
         let l = (bytes_eq-Decides a b).1 k in
         absurd (cc)
     by false true i j =
-        let k : numbers_of t vs ≡ numbers_of t ws = sym e ∙ ((bytes_eq-Decides a b).0 j ∙ f) in
+        let k : setting_numbers t vs ≡ setting_numbers t ws = sym e ∙ ((bytes_eq-Decides a b).0 j ∙ f) in
         let codes : map code_of vs ≡ map code_of ws = cc in
         let l : same_target vs ws ≡ true =
         ap (same_target vs) (sym (codes_same vs ws codes)) ∙ target_itself vs in
         absurd (cc)
 
 -- numbers of two declarations differ
-tests_other : (t r : Site) (vs ws : List TargetWord) (a b : List ℕ) → (r ≡ t → ⊥) → a ≡ numbers_of t vs
-    → b ≡ numbers_of r ws → pointwise nat_eq a b ≡ false
+tests_other : (t r : Site) (vs ws : List TargetWord) (a b : List ℕ) → (r ≡ t → ⊥) → a ≡ setting_numbers t vs
+    → b ≡ setting_numbers r ws → pointwise nat_eq a b ≡ false
 tests_other t r vs ws a b n e f = by (pointwise nat_eq a b) refl
   where
     by : (q : Bool) → pointwise nat_eq a b ≡ q → q ≡ false
     by false j = refl
     by true j =
-        let k : numbers_of t vs ≡ numbers_of r ws = sym e ∙ ((bytes_eq-Decides a b).0 j ∙ f) in
+        let k : setting_numbers t vs ≡ setting_numbers r ws = sym e ∙ ((bytes_eq-Decides a b).0 j ∙ f) in
         let body : r.body ≡ t.body = cc in
         let place : r.place ≡ t.place = cc in
         absurd (n (ap (λ (x : ℕ). record { body = x; place = r.place }) body
@@ -122,8 +122,8 @@ adds_none t k xs p l = subst (λ (ys : List Setting). AddsSettings t k ys p p) (
 })
 
 pub adds_next : (t : Site) (xs : List Setting) (x : Setting) (k : ℕ) (key : Vec ℕ Global) (first old new : SettingPlaces)
-    → Stands xs k x → key.items ≡ numbers_of t (target_of x)
-    → ((q : Vec ℕ Global) → place_at new q ≡ cond (pointwise nat_eq key.items q.items) (Some k) (place_at old q))
+    → Stands xs k x → key.items ≡ setting_numbers t (target_of x)
+    → ((q : Vec ℕ Global) → setting_place new q ≡ cond (pointwise nat_eq key.items q.items) (Some k) (setting_place old q))
     → AddsSettings t (k + 1) (drop (k + 1) xs) first old → AddsSettings t k (drop k xs) first new
 adds_next t xs x k key first old new s e u h =
     subst (λ (ys : List Setting). AddsSettings t k ys first new) (sym (drop_here xs k x s))
@@ -132,7 +132,7 @@ adds_next t xs x k key first old new s e u h =
     told : TellsAt t [] first → TellsFrom t k (x ∷ drop (k + 1) xs) new
     told f = record {
       each = λ v target q i. subst (SetsFrom v t k (x ∷ drop (k + 1) xs) target) (sym (u q))
-          (sets_before v t k x (drop (k + 1) xs) target (place_at old q) (pointwise nat_eq key.items q.items)
+          (sets_before v t k x (drop (k + 1) xs) target (setting_place old q) (pointwise nat_eq key.items q.items)
           (tests_same t (target_of x) target key.items q.items e i) ((h.told f).each v target q i));
     }
 
@@ -141,7 +141,7 @@ adds_next t xs x k key first old new s e u h =
       each = λ v target q i.
           let z = tests_other t r (target_of x) target key.items q.items d e i in
           subst (SetsAt v r settings target)
-          (sym (u q ∙ ap (λ (b : Bool). cond b (Some k) (place_at old q)) z))
+          (sym (u q ∙ ap (λ (b : Bool). cond b (Some k) (setting_place old q)) z))
           ((h.kept r settings d f).each v target q i);
     }
 
@@ -163,7 +163,7 @@ module _ (m : RootedModel) where
   tells_none : (t : Site) (p : SettingPlaces) → settings_at m t ≡ [] → TellsAt t [] p → TellsAt t (settings_at m t) p
   tells_none t p e h = subst (λ (xs : List Setting). TellsAt t xs p) (sym e) h
 
-  pub first_start : (p : SettingPlaces) → ((q : Vec ℕ Global) → place_at p q ≡ None) → TellsFirst m 0 0 p
+  pub first_start : (p : SettingPlaces) → ((q : Vec ℕ Global) → setting_place p q ≡ None) → TellsFirst m 0 0 p
   first_start p e = record {
     done = λ t i. absurd (none t i);
     left = λ t n. record { each = λ u target q i. subst (SetsAt u t [] target) (sym (e q)) refl };

@@ -24,22 +24,22 @@ abbrev pub SetsAt : UnitPath → Site → List Setting → List TargetWord → O
 SetsAt u s settings target o = SetsFrom u s 0 settings target o
 
 -- the numbers of a declaration and of a target; different ones have different numbers
-abbrev pub numbers_of : Site → List TargetWord → List ℕ
-numbers_of s target = s.body ∷ s.place ∷ map code_of target
+abbrev pub setting_numbers : Site → List TargetWord → List ℕ
+setting_numbers s target = s.body ∷ s.place ∷ map code_of target
 
 -- the place that the table has for these numbers
-abbrev pub place_at : SettingPlaces → Vec ℕ Global → Option ℕ
-place_at p key = hash.get (λ (x y : Vec ℕ Global). pointwise nat_eq x.items y.items) p.places key
+abbrev pub setting_place : SettingPlaces → Vec ℕ Global → Option ℕ
+setting_place p key = hash.get (λ (x y : Vec ℕ Global). pointwise nat_eq x.items y.items) p.places key
 
 -- the table tells for each target what the first of these settings is, which are those of the declaration at the site
 pub record TellsAt (s : Site) (settings : List Setting) (p : SettingPlaces) : Type 0 where
-  pub each : (u : UnitPath) (target : List TargetWord) (key : Vec ℕ Global) → key.items ≡ numbers_of s target
-      → SetsAt u s settings target (place_at p key)
+  pub each : (u : UnitPath) (target : List TargetWord) (key : Vec ℕ Global) → key.items ≡ setting_numbers s target
+      → SetsAt u s settings target (setting_place p key)
 
 -- the same of the settings from the place k on
 pub record TellsFrom (s : Site) (k : ℕ) (settings : List Setting) (p : SettingPlaces) : Type 0 where
-  pub each : (u : UnitPath) (target : List TargetWord) (key : Vec ℕ Global) → key.items ≡ numbers_of s target
-      → SetsFrom u s k settings target (place_at p key)
+  pub each : (u : UnitPath) (target : List TargetWord) (key : Vec ℕ Global) → key.items ≡ setting_numbers s target
+      → SetsFrom u s k settings target (setting_place p key)
 
 -- these settings of the declaration at the site, which are those from the place k on, were added, and no others
 pub record AddsSettings (s : Site) (k : ℕ) (settings : List Setting) (old new : SettingPlaces) : Type 0 where

@@ -17,38 +17,6 @@ use ar_syntax::Word;
 use hierarchy::{Attribute, Outline, Source};
 use std::alloc::Global;
 
-// What the declaration of a unit sets for the target, which is read in the unit's owner.
-fn set_here(
-    alloc: Global,
-    settings: &SettingPlaces,
-    outline: &Outline,
-    owner: UnitId,
-    target: &[Word],
-) -> Result<Option<Attribute>, Memory>
-    ensures { (m : RootedModel) (units : List UnitPath) (above : UnitPath) (site : Option Site)
-        → TellsSettings m settings.now → IsSetAt site outline.now.set_at
-        → Stands units owner.n above
-        → IfOk result (AreAttribute units (set_by m above site (map target_word_of target.now))) }
-{
-    let Some(site) = outline.set_at else {
-        return Ok(None);
-    };
-    match settings.find(alloc, site, target)? {
-        None => Ok(None),
-        Some(place) => match u32::try_from(place) {
-            Err(_) => Err(Memory::from(Cap::Settings)),
-            Ok(setting) => Ok(Some(Attribute {
-                from: owner,
-                source: Source {
-                    body: site.0,
-                    member: site.1,
-                    setting: Some(setting),
-                },
-            })),
-        },
-    }
-}
-
 /// What the outermost unit sets for the target, which is named from inside the unit. No unit is deeper than there are
 /// units, so that the way up ends.
 pub fn outermost(
@@ -79,4 +47,36 @@ pub fn outermost(
         at = owner;
     }
     Ok(found)
+}
+
+// What the declaration of a unit sets for the target, which is read in the unit's owner.
+fn set_here(
+    alloc: Global,
+    settings: &SettingPlaces,
+    outline: &Outline,
+    owner: UnitId,
+    target: &[Word],
+) -> Result<Option<Attribute>, Memory>
+    ensures { (m : RootedModel) (units : List UnitPath) (above : UnitPath) (site : Option Site)
+        → TellsSettings m settings.now → IsSetAt site outline.now.set_at
+        → Stands units owner.n above
+        → IfOk result (AreAttribute units (set_by m above site (map target_word_of target.now))) }
+{
+    let Some(site) = outline.set_at else {
+        return Ok(None);
+    };
+    match settings.find(alloc, site, target)? {
+        None => Ok(None),
+        Some(place) => match u32::try_from(place) {
+            Err(_) => Err(Memory::from(Cap::Settings)),
+            Ok(setting) => Ok(Some(Attribute {
+                from: owner,
+                source: Source {
+                    body: site.0,
+                    member: site.1,
+                    setting: Some(setting),
+                },
+            })),
+        },
+    }
 }

@@ -27,7 +27,7 @@ use Rattle.hierarchy.specs.Listing.{variables}
 use Rattle.source_meaning.specs.Means.{Means, All_mean, Parts_mean, Cases_mean}
 use Rattle.source_meaning.specs.Means as means
 use Rattle.source_meaning.specs.Kinds.{HasKindAt}
-use Rattle.source_meaning.specs.BoundExpressions.{IsNumberOf, IsLeafFor, IsBoundExpression}
+use Rattle.source_meaning.specs.BoundExpressions.{IsNumberOfVariable, IsLeafFor, IsBoundExpression}
 use Rattle.source_meaning.specs.BoundExpressions as leaf
 use Rattle.source_meaning.proofs.Moving.{moved, IsMoved, renames_moved}
 
@@ -75,7 +75,7 @@ module _ (m : RootedModel) (units : List UnitPath) (u : UnitPath) (leaves : Path
 
   -- what is meant, with numbers for variables
   abbrev Meant : RawLevel → Level VarId → Level Thing → Type 0
-  Meant e y l = Means m u e l × Renames (IsNumberOf m units) l y
+  Meant e y l = Means m u e l × Renames (IsNumberOfVariable m units) l y
 
   -- a path
   path_means : (p : Path) (x : Leaf) (l : Level Thing) → IsLeafFor m units u p x
@@ -84,7 +84,7 @@ module _ (m : RootedModel) (units : List UnitPath) (u : UnitPath) (leaves : Path
       let same : v ≡ w = sym (number_is (variables m units) n v s) ∙ q in (
         subst (λ (z : Thing). Means m u (raw.Path p) (Variable z)) same (means.variable f),
         r.variable
-            (subst (λ (z : Thing). IsNumberOf m units z n) same s),
+            (subst (λ (z : Thing). IsNumberOfVariable m units z n) same s),
       )
   path_means p x l (leaf.parameter v f w) r.constant = (means.parameter v f w, r.constant)
   path_means p x l (leaf.symbol k s) r.constant = (means.symbol s, r.constant)
@@ -112,8 +112,8 @@ module _ (m : RootedModel) (units : List UnitPath) (u : UnitPath) (leaves : Path
         let one = one_part (subst (λ (z : List (Bool × Expr VarId)). Parts_rename (IsMoved place) z qs.items) q hs) in
         let k = means_moved d one.2 (operand_sound g (wanting (OfKind Whole) a.value) (one_first (wanting (OfKind Whole) a.value) [])) in (
           means.negative one.0 k.0 one.1,
-          r.sum (subst (λ (z : List (Bool × Expr Thing)). Parts_rename (IsNumberOf m units) z ps.items) (sym one.1)
-              (subst (λ (z : List (Bool × Expr VarId)). Parts_rename (IsNumberOf m units) ((false, one.0) ∷ []) z)
+          r.sum (subst (λ (z : List (Bool × Expr Thing)). Parts_rename (IsNumberOfVariable m units) z ps.items) (sym one.1)
+              (subst (λ (z : List (Bool × Expr VarId)). Parts_rename (IsNumberOfVariable m units) ((false, one.0) ∷ []) z)
               (sym q) (r.part k.1 r.no_part))),
         )
     means_moved (t.all {rs = rs} ds) (r.all hs) g =
@@ -160,7 +160,7 @@ module _ (m : RootedModel) (units : List UnitPath) (u : UnitPath) (leaves : Path
     all_moved : {rs : List RawExpr} {es : List (Expr VarId)} {ls : List (Expr Thing)}
         → All_become (StandsFor leaves) rs es → All_rename (IsMoved place) es ls
         → ((e : RawExpr) → IsOneOf rs e → Sound (level_of e))
-        → All_mean m u rs ls × All_rename (IsNumberOf m units) ls es
+        → All_mean m u rs ls × All_rename (IsNumberOfVariable m units) ls es
     all_moved t.none r.none g = (means.none, r.none)
     all_moved (t.one_and {r = e} {rs = rs} d ds) (r.one_and h hs) g =
         let k = means_moved d h (g e (one_first e rs)) in
@@ -170,7 +170,7 @@ module _ (m : RootedModel) (units : List UnitPath) (u : UnitPath) (leaves : Path
     parts_moved : {rs : List (Bool × RawExpr)} {es : List (Bool × Expr VarId)} {ls : List (Bool × Expr Thing)}
         → Parts_become (StandsFor leaves) rs es → Parts_rename (IsMoved place) es ls
         → ((plus : Bool) (e : RawExpr) → IsOneOf rs (plus, e) → Sound (level_of e))
-        → Parts_mean m u rs ls × Parts_rename (IsNumberOf m units) ls es
+        → Parts_mean m u rs ls × Parts_rename (IsNumberOfVariable m units) ls es
     parts_moved t.no_part r.no_part g = (means.no_part, r.no_part)
     parts_moved (t.part {plus = plus} {r = e} {rs = rs} d ds) (r.part h hs) g =
         let k = means_moved d h (g plus e (one_first (plus, e) rs)) in
@@ -181,7 +181,7 @@ module _ (m : RootedModel) (units : List UnitPath) (u : UnitPath) (leaves : Path
         {ls : List (Expr Thing × Expr Thing)} → Cases_become (StandsFor leaves) rs es
         → Cases_rename (IsMoved place) es ls
         → ((q e : RawExpr) → IsOneOf rs (q, e) → Sound (level_of q) × Sound (level_of e))
-        → Cases_mean m u rs ls × Cases_rename (IsNumberOf m units) ls es
+        → Cases_mean m u rs ls × Cases_rename (IsNumberOfVariable m units) ls es
     cases_moved t.no_case r.no_case g = (means.no_case, r.no_case)
     cases_moved (t.case_and {q = q} {r = e} {rs = rs} d k ds) (r.case_and h j hs) g =
         let s = g q e (one_first (q, e) rs) in

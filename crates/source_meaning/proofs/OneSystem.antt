@@ -38,7 +38,7 @@ use Rattle.written_forms.specs.Parts.{InstrForm}
 use Rattle.written_forms.specs.Operands.{level_of}
 use Rattle.source_meaning.specs.Means.{Means}
 use Rattle.source_meaning.specs.Systems.{IsVariable, IsObserver, AreAsserted, IsPart, IsMember, IsHidden, IsEvent}
-use Rattle.source_meaning.specs.SystemsInside.{IsSystemOf}
+use Rattle.source_meaning.specs.SystemsInside.{IsSystemOfUnits}
 use Rattle.source_meaning.specs.Systems as b
 use Rattle.source_meaning.proofs.OneMeaning.{means_same, value_same, leads_same}
 
@@ -180,7 +180,7 @@ module _ (m : RootedModel) (different : AreDifferent m.declared.symbols) where
   }
 
   pub system_same : {units : List UnitPath} {x y : s.System Thing} → AreDifferent units → AreDifferent (events m units)
-      → IsSystemOf m units x → IsSystemOf m units y
+      → IsSystemOfUnits m units x → IsSystemOfUnits m units y
       → images.IsImage (λ (t u : Thing). t ≡ u) x y
   system_same {units = units} {x = x} {y = y} du de p q =
       let a = p.are in

@@ -28,17 +28,17 @@ pub data IsExpressionOf (e : RawExpr) : InstrForm → Type 0 where
   value : {p : Path} → IsExpressionOf e (instr.Assign p e)
 
 -- the instruction itself assigns or ties the path
-pub data IsTargetOf (p : Path) : InstrForm → Type 0 where
-  assigned : {e : RawExpr} → IsTargetOf p (instr.Assign p e)
-  left : {q : Path} → IsTargetOf p (instr.Tie p q)
-  right : {q : Path} → IsTargetOf p (instr.Tie q p)
+pub data IsAssignedPath (p : Path) : InstrForm → Type 0 where
+  assigned : {e : RawExpr} → IsAssignedPath p (instr.Assign p e)
+  left : {q : Path} → IsAssignedPath p (instr.Tie p q)
+  right : {q : Path} → IsAssignedPath p (instr.Tie q p)
 
 -- of the instruction and of those in it: their targets are variables, what stands for their paths is what these name,
 -- and nothing in their expressions has a wrong kind
 pub record AreLeaves (m : RootedModel) (units : List UnitPath) (u : UnitPath) (leaves : Path → Leaf)
     (whole : InstrForm) : Type 0 where
-  pub targets : (i : InstrForm) (p : Path) → IsPartOf i whole → IsTargetOf p i → NamesVariable m u p
-  pub of_targets : (i : InstrForm) (p : Path) → IsPartOf i whole → IsTargetOf p i → IsLeafFor m units u p (leaves p)
+  pub targets : (i : InstrForm) (p : Path) → IsPartOf i whole → IsAssignedPath p i → NamesVariable m u p
+  pub of_targets : (i : InstrForm) (p : Path) → IsPartOf i whole → IsAssignedPath p i → IsLeafFor m units u p (leaves p)
   pub of_expressions : (i : InstrForm) (e : RawExpr) (p : Path) → IsPartOf i whole → IsExpressionOf e i
       → PathIn p (level_of e) → IsLeafFor m units u p (leaves p)
   pub right : (i : InstrForm) (e : RawExpr) (at : Place) → IsPartOf i whole → IsExpressionOf e i

@@ -18,13 +18,13 @@ use Rattle.hierarchy.specs.Listing.{variables}
 use Rattle.source_meaning.specs.Means.{Means, ValueOf, IsSymbol, is_valued}
 
 -- the number stands for the variable
-abbrev pub IsNumberOf : RootedModel → List UnitPath → Thing → VarId → Type 0
-IsNumberOf m units t x = IsNumber (variables m units) t x.n
+abbrev pub IsNumberOfVariable : RootedModel → List UnitPath → Thing → VarId → Type 0
+IsNumberOfVariable m units t x = IsNumber (variables m units) t x.n
 
 -- this is what the path, read in the unit u, stands for: a variable by its number, or the value of a parameter or a
 -- symbol
 pub data IsLeafFor (m : RootedModel) (units : List UnitPath) (u : UnitPath) (p : Path) : Leaf → Type 0 where
-  variable : {x : VarId} (t : Thing) → Finds m is_variable u p t → IsNumberOf m units t x
+  variable : {x : VarId} (t : Thing) → Finds m is_variable u p t → IsNumberOfVariable m units t x
       → IsLeafFor m units u p (Variable x)
   parameter : {v : Value} (t : Thing) → Finds m is_valued u p t → ValueOf m t v → IsLeafFor m units u p (Constant v)
   symbol : (k : ℕ) → IsSymbol m u p k → IsLeafFor m units u p (Constant (Symbol k))
@@ -34,4 +34,4 @@ pub record IsBoundExpression (m : RootedModel) (units : List UnitPath) (u : Unit
     (f : Expr VarId) : Type 0 where
   pub meaning : Expr Thing
   pub means : Means m u (level_of e) (out-Expr Thing meaning)
-  pub numbers : Renames (IsNumberOf m units) (out-Expr Thing meaning) (out-Expr VarId f)
+  pub numbers : Renames (IsNumberOfVariable m units) (out-Expr Thing meaning) (out-Expr VarId f)

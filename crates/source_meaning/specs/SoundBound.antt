@@ -22,7 +22,7 @@ use Rattle.gts_core.specs.declared.system.Variable.{Variable}
 use Rattle.source_meaning.specs.declared.bound.Bound.{Bound}
 
 -- parts of a flat system over the symbols, units and variables of the bound forms
-pub record IsOver (b : Bound) (p : GtsParts) : Type 0 where
+pub record IsOverBound (b : Bound) (p : GtsParts) : Type 0 where
   pub symbols : p.symbols ≡ b.symbols
   pub units : p.units ≡ b.units
   pub variables : p.variables ≡ b.variables
@@ -46,7 +46,7 @@ pub record SetsSort (p : GtsParts) (to_state : Bool) (a : s.Assign ℕ) : Type 0
   pub sort : variable.is_state ≡ to_state
 
 -- each list is short enough for its numbers
-pub record AreFew (b : Bound) : Type 0 where
+pub record AreShortLists (b : Bound) : Type 0 where
   pub symbols : length b.symbols.items < 2 ^ 32
   pub units : length b.units.items < 2 ^ 32
   pub variables : length b.variables.items < 2 ^ 32
@@ -57,18 +57,18 @@ pub record AreFew (b : Bound) : Type 0 where
 -- what bound forms keep: variables have units, and values of their domains; guards are truth values; actions assign
 -- state variables and assertions flows; parts are events; observers have their kinds
 pub record IsSoundBound (b : Bound) : Type 0 where
-  pub few : AreFew b
-  pub variables : (p : GtsParts) → IsOver b p → (n : ℕ) (x : Variable) → Stands b.variables.items n x → IsVariableOf p x
+  pub few : AreShortLists b
+  pub variables : (p : GtsParts) → IsOverBound b p → (n : ℕ) (x : Variable) → Stands b.variables.items n x → IsVariableOf p x
   pub event_units : (e : DeclaredEvent) → IsOneOf b.events.items e → e.unit.n < length b.units.items
-  pub guards : (p : GtsParts) → IsOver b p → (e : DeclaredEvent) (guard : Expr VarId) (action : Act)
+  pub guards : (p : GtsParts) → IsOverBound b p → (e : DeclaredEvent) (guard : Expr VarId) (action : Act)
       → IsOneOf b.events.items e
       → IsOneOf e.ways.items (Local guard action) → IsTyped p guard kind.Truth
-  pub actions : (p : GtsParts) → IsOver b p → (e : DeclaredEvent) (guard : Expr VarId) (action : Act)
+  pub actions : (p : GtsParts) → IsOverBound b p → (e : DeclaredEvent) (guard : Expr VarId) (action : Act)
       → IsOneOf b.events.items e
       → IsOneOf e.ways.items (Local guard action) → IsSoundAct p true (out-Act action)
   pub parts : (e : DeclaredEvent) (parts : Vec (Bool × EventId) Global) (at : Place) (part : Bool × EventId)
       → IsOneOf b.events.items e
       → IsOneOf e.ways.items (Sync parts at) → IsOneOf parts.items part → part.1.n < length b.events.items
-  pub assertions : (p : GtsParts) → IsOver b p → (a : Act) → IsOneOf b.assertions.items a
+  pub assertions : (p : GtsParts) → IsOverBound b p → (a : Act) → IsOneOf b.assertions.items a
       → IsSoundAct p false (out-Act a)
-  pub observers : (p : GtsParts) → IsOver b p → (o : Observer) → IsOneOf b.observers.items o → IsTyped p o.value o.kind
+  pub observers : (p : GtsParts) → IsOverBound b p → (o : Observer) → IsOneOf b.observers.items o → IsTyped p o.value o.kind

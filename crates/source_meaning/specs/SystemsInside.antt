@@ -9,7 +9,7 @@ use Rattle.source_meaning.specs.Systems.{Declarations, AreOf, HasDeclarations}
 -- The system
 
 -- the system that the main block means, where it has these units
-pub record IsSystemOf (m : RootedModel) (units : List UnitPath) (sys : System Thing) : Type 0 where
+pub record IsSystemOfUnits (m : RootedModel) (units : List UnitPath) (sys : System Thing) : Type 0 where
   pub declarations : Declarations
   pub are : AreOf m units declarations
   pub has : HasDeclarations declarations sys

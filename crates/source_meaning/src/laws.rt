@@ -17,7 +17,7 @@ ghost use Rattle.hierarchy.specs.Units.{UnitPath, Thing};
 ghost use Rattle.hierarchy.specs.Settings.{Attribute, in_force};
 ghost use Rattle.source_meaning.specs.Means.{Means, ValueOf};
 ghost use Rattle.source_meaning.specs.Systems.{Declarations};
-ghost use Rattle.source_meaning.specs.SystemsInside.{IsSystemOf};
+ghost use Rattle.source_meaning.specs.SystemsInside.{IsSystemOfUnits};
 ghost use Rattle.source_meaning.specs.Kinds.{HasKindAt};
 ghost use Rattle.source_meaning.specs.BoundExpressions.{IsLeafFor, IsBoundExpression};
 ghost use Rattle.source_meaning.specs.BoundActs.{AreLeaves, IsBoundInstruction};
@@ -61,11 +61,11 @@ pub fn one_meaning()
 pub fn one_system()
     ensures system { (m : RootedModel) (units : List UnitPath) → AreDifferent m.declared.symbols
         → AreDifferent units → AreDifferent (events m units)
-        → (x y : System Thing) → IsSystemOf m units x → IsSystemOf m units y
+        → (x y : System Thing) → IsSystemOfUnits m units x → IsSystemOfUnits m units y
         → IsImage (λ (t u : Thing). t ≡ u) x y }
     ensures runs { (m : RootedModel) (units : List UnitPath) → AreDifferent m.declared.symbols
         → AreDifferent units → AreDifferent (events m units)
-        → (x y : System Thing) → IsSystemOf m units x → IsSystemOf m units y
+        → (x y : System Thing) → IsSystemOfUnits m units x → IsSystemOfUnits m units y
         → (cs : List Command) (ms : List Moment) → (Runs x cs ms ↔ Runs y cs ms) }
 {}
 

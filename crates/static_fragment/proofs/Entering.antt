@@ -15,7 +15,7 @@ use Rattle.gts_core.specs.declared.system.GtsParts.{GtsParts}
 use Rattle.mode_search.specs.declared.kept.KeptWay.{KeptWay}
 use Rattle.mode_trees.specs.Views.{number_in}
 use Rattle.mode_trees.specs.declared.forests.Edge.{Edge}
-use Rattle.mode_search.specs.Reached.{Setting, IsReachable, here, along, IsReachFrom, EntersAgain, IsAgain}
+use Rattle.mode_search.specs.Reached.{Setting, IsReachable, here, along, IsReachFrom, EntersAgain, HasModeAgain}
 use Rattle.mode_search.specs.declared.searching.Reach.{Reach}
 use Rattle.mode_search.specs.Reaches.{IsAgainAt}
 use Rattle.static_fragment.specs.Setting.{AreReached, label_in}
@@ -24,12 +24,12 @@ use Rattle.static_fragment.proofs.Leading.{looked, variable_is, live_there, Foun
 use Rattle.static_fragment.proofs.Listing.{not_two, label_same}
 
 -- a flag that is not unset is set
-again_is : (first : Value) (ms : List Value) (es : List Edge) (b : Bool) → IsAgain first ms es b
-    → (IsAgain first ms es false → ⊥) → b ≡ true
+again_is : (first : Value) (ms : List Value) (es : List Edge) (b : Bool) → HasModeAgain first ms es b
+    → (HasModeAgain first ms es false → ⊥) → b ≡ true
 again_is first ms es true h n = refl
 again_is first ms es false h n = absurd (n h)
 
-again_says : (first : Value) (ms : List Value) (es : List Edge) (b : Bool) → b ≡ true → IsAgain first ms es b
+again_says : (first : Value) (ms : List Value) (es : List Edge) (b : Bool) → b ≡ true → HasModeAgain first ms es b
     → EntersAgain first es
 again_says first ms es true e h = h
 again_says first ms es false e h = absurd (cc e)

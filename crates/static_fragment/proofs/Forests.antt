@@ -18,18 +18,18 @@ use Rattle.gts_core.specs.declared.system.Variable.{Variable}
 use Rattle.gts_core.specs.declared.system.GtsParts.{GtsParts}
 use Rattle.mode_search.specs.Events.{AreMarks, AreMoving}
 use Rattle.mode_search.specs.declared.kept.KeptWay.{KeptWay}
-use Rattle.mode_trees.specs.Views.{row_of, tree_of, trees_of, number_in}
+use Rattle.mode_trees.specs.Views.{edge_row, tree_of, trees_of, number_in}
 use Rattle.mode_trees.specs.Ways.{HasOwnWay, OwnTheirWays}
 use Rattle.mode_trees.specs.declared.forests.Edge.{Edge}
 use Rattle.mode_trees.specs.declared.forests.ModeTree.{ModeTree}
 use Rattle.mode_trees.specs.declared.forests.Forest.{Forest}
-use Rattle.mode_trees.specs.Below.{IsBelow}
+use Rattle.mode_trees.specs.Below.{AreEdgesBelow}
 use Rattle.mode_trees.specs.Below as below
-use Rattle.mode_search.specs.Reached.{IsAgain}
+use Rattle.mode_search.specs.Reached.{HasModeAgain}
 use Rattle.mode_search.specs.declared.searching.Reach.{Reach}
 use Rattle.mode_search.specs.declared.listing.Live.{Live}
 use Rattle.mode_search.specs.Live.{AreLive, AreEdgesApart}
-use Rattle.mode_search.specs.Sharing.{AreWithin}
+use Rattle.mode_search.specs.Sharing.{HaveEventsWithin}
 use Rattle.static_fragment.proofs.Units.{moving_mode, mode_moving, value_there}
 use Rattle.static_fragment.specs.Setting.{AreReached, label_in}
 use Rattle.static_fragment.proofs.Leading.{row_with, in_row, live_there, live_back}
@@ -37,7 +37,7 @@ use Rattle.static_fragment.specs.Stages.{AreFromWays, NoneAgain}
 use Rattle.static_fragment.specs.Trees.{IsTreeAt, AreTreesBelow}
 
 -- edges below a mode are some of the list
-below_one : (edges : List Edge) {m : Value} {low : ℕ} {es : List Edge} → IsBelow edges m low es → {e : Edge}
+below_one : (edges : List Edge) {m : Value} {low : ℕ} {es : List Edge} → AreEdgesBelow edges m low es → {e : Edge}
     → IsOneOf es e → IsOneOf edges e
 below_one edges (below.no_more h) {e = e} o = absurd (one_none e o)
 below_one edges (below.next {es = es} {fs = fs} x i f l least d c) {e = e} o = elim (one_cases x (es ++ fs) e o) [
@@ -52,7 +52,7 @@ module _ {p : GtsParts} {reaches : List Reach} (w : AreFromWays p reaches) where
 
   -- the events of live edges are events of the parts
   pub all_within : (live : List Live) → AreLive reaches (length reaches) live → (count : ℕ)
-      → count ≡ length p.events.items → AreWithin count live
+      → count ≡ length p.events.items → HaveEventsWithin count live
   all_within live a count e = record {
     within = λ x l st.
         let h = a.sound x l st in
@@ -105,7 +105,7 @@ module _ {p : GtsParts} {reaches : List Reach} (w : AreFromWays p reaches) where
       subst (λ (z : Value). AreDifferent (z ∷ map (λ (y : Edge). y.to) r.edges.items)) same
       (subst (λ (z : List Value). AreDifferent z) (once q.variable.value r.again refl q.is.again) q.is.different)
     where
-      once : (first : Value) (b : Bool) → r.again ≡ b → IsAgain first r.modes.items r.edges.items b
+      once : (first : Value) (b : Bool) → r.again ≡ b → HasModeAgain first r.modes.items r.edges.items b
           → r.modes.items ≡ first ∷ map (λ (y : Edge). y.to) r.edges.items
       once first true e h = absurd (none n (record { reach = r; stands = st; again = e }))
       once first false e h = h
@@ -134,14 +134,14 @@ module _ {p : GtsParts} {system : System ℕ} {dropped : List ℕ} {kept : List 
         }
 
     abbrev row : Edge → Row
-    row = row_of (number_in p)
+    row = edge_row (number_in p)
 
     rows : (e : Edge) (m : Value) (es fs : List Edge) → e.from ≡ m
         → map row (e ∷ (es ++ fs)) ≡ row_with m (label_in p e) e.to ∷ (map row es ++ map row fs)
     rows e m es fs i = ap (λ (z : Value). row_with z (label_in p e) e.to ∷ map row (es ++ fs)) i ∙ ap
         (λ (z : List Row). row_with m (label_in p e) e.to ∷ z) (map-append row es fs)
 
-    pub under : {m : Value} {low : ℕ} {es : List Edge} → IsReached system dropped n m → IsBelow r.edges.items m low es
+    pub under : {m : Value} {low : ℕ} {es : List Edge} → IsReached system dropped n m → AreEdgesBelow r.edges.items m low es
         → Under system dropped n m low (map row es)
     under {m = m} {low = low} reached (below.no_more h) = no_more (λ l to late g.
         let b = leaving m reached l to g in h b.one b.is_one b.is_from (omega (arith, late, b.event)))

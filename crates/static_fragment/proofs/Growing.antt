@@ -6,7 +6,7 @@ use Rattle.gts_core.specs.declared.system.Variable.{Variable}
 use Rattle.gts_core.specs.declared.system.GtsParts.{GtsParts}
 use Rattle.mode_trees.specs.declared.forests.ModeTree.{ModeTree}
 use Rattle.mode_search.specs.declared.searching.Reach.{Reach}
-use Rattle.mode_trees.specs.Below.{IsBelow}
+use Rattle.mode_trees.specs.Below.{AreEdgesBelow}
 use Rattle.static_fragment.specs.Units.{IsMovingState}
 use Rattle.static_fragment.specs.Trees.{IsTreeAt, AreTreesBelow, HasTree}
 
@@ -50,7 +50,7 @@ module _ (p : GtsParts) (moving : List Bool) (reaches : List Reach) (n : ℕ) (x
 
   module _ (r : Reach) (sr : Stands reaches n r) (has : HasTree moving x) (tree : ModeTree)
       (number : tree.variable.n ≡ n) (first : tree.first ≡ x.value)
-      (edges : IsBelow r.edges.items tree.first 0 tree.edges.items) where
+      (edges : AreEdgesBelow r.edges.items tree.first 0 tree.edges.items) where
     here : IsTreeAt p moving reaches (n + 1) tree
     here = record {
       below = omega (arith, number);

@@ -10,8 +10,8 @@ use Rattle.ar_firing.proofs.Unbroken.{keeps_s3, keeps_s4, keeps_s5, keeps_s6}
 use Rattle.gts_core.specs.View.{Views}
 use Rattle.gts_core.specs.Sound.{IsSound}
 use Rattle.gts_core.specs.declared.system.GtsParts.{GtsParts}
-use Rattle.mode_search.specs.Events.{IsLeast, AreMarks, AreMoving, AreFirstStates, IsJointAt, IsStateless}
-use Rattle.mode_search.specs.Kept.{AreKept, OtherInGuard, OtherInAction}
+use Rattle.mode_search.specs.Events.{IsLeastNumber, AreMarks, AreMoving, AreFirstStates, IsJointAt, IsStateless}
+use Rattle.mode_search.specs.Kept.{AreKeptWaysBefore, OtherInGuard, OtherInAction}
 use Rattle.mode_search.specs.declared.kept.KeptWay.{KeptWay}
 use Rattle.ar_base.proofs.Standing.{at_most}
 use Rattle.ar_base.proofs.Comparing.{low}
@@ -23,7 +23,7 @@ use Rattle.mode_search.specs.declared.sharing.Sharing.{Sharing}
 use Rattle.mode_search.specs.Wide.{IsFirstWide}
 use Rattle.mode_search.specs.declared.searches.Wide.{Wide}
 use Rattle.mode_search.specs.declared.searches.Wide.TheVariants as wide
-use Rattle.static_fragment.specs.Units.{AreUnits}
+use Rattle.static_fragment.specs.Units.{AreUnitMarks}
 use Rattle.static_fragment.specs.UnitShown.{IsFirstShown}
 use Rattle.static_fragment.proofs.Units.{no_joint_keeps, no_stateless_keeps}
 use Rattle.static_fragment.proofs.Values.{none_wide_keeps}
@@ -36,9 +36,9 @@ use Rattle.static_fragment.proofs.Entering.{again_breaks, breaks_again, unbroken
 use Rattle.static_fragment.specs.declared.faults.FragmentFault.{FragmentFault}
 use Rattle.static_fragment.specs.declared.faults.FragmentFault.TheVariants.{Outside, Memory}
 use Rattle.static_fragment.specs.Recognised.{IsRefusedUpTo}
-use Rattle.static_fragment.specs.Shown.{IsShown, IsShownWith, IsWideShown, IsCountedUpTo, lesser_of}
+use Rattle.static_fragment.specs.Shown.{IsRuleShown, IsShownWith, IsWideShown, IsCountedUpTo, lesser_of_both}
 use Rattle.static_fragment.specs.declared.stages.Units.{Units}
-use Rattle.static_fragment.specs.Stages.{KeepsBelow, OnResult, HasUnits, HasReaches, HasSharing, IsSeen}
+use Rattle.static_fragment.specs.Stages.{KeepsBelow, OnResult, HasUnits, HasReaches, HasSharing, IsSeenBelow}
 
 -- what is refused is the error
 pub on_err : {A : Type 0} (after : A → Type 0) (refused : FragmentFault → Type 0) (r : Result A FragmentFault)
@@ -50,14 +50,14 @@ pub if_err : {A : Type 0} (P : FragmentFault → Type 0) (r : Result A FragmentF
 if_err {A} P r e is h = subst (λ (z : Result A FragmentFault). IfErr z P) (sym is) h
 
 -- the lesser of two least numbers is the least of either kind
-pub lesser_least : (P Q : ℕ → Type 0) (a b : Option ℕ) → IsLeast P a → IsLeast Q b
-    → IsLeast (λ n. P n ⊎ Q n) (lesser_of a b)
+pub lesser_least : (P Q : ℕ → Type 0) (a b : Option ℕ) → IsLeastNumber P a → IsLeastNumber Q b
+    → IsLeastNumber (λ n. P n ⊎ Q n) (lesser_of_both a b)
 lesser_least P Q None None h k = λ n q. elim q [ inl x ↦ h n x | inr x ↦ k n x ]
 lesser_least P Q None (Some y) h k = (inr k.0, λ n q. elim q [ inl x ↦ absurd (h n x) | inr x ↦ k.1 n x ])
 lesser_least P Q (Some x) None h k = (inl h.0, λ n q. elim q [ inl u ↦ h.1 n u | inr u ↦ absurd (k n u) ])
 lesser_least P Q (Some x) (Some y) h k = by (nat_lt y x) refl
   where
-    by : (c : Bool) → nat_lt y x ≡ c → IsLeast (λ n. P n ⊎ Q n) (cond c (Some y) (Some x))
+    by : (c : Bool) → nat_lt y x ≡ c → IsLeastNumber (λ n. P n ⊎ Q n) (cond c (Some y) (Some x))
     by true e = (
       inr k.0,
       λ n q. elim q [
@@ -77,7 +77,7 @@ lesser_least P Q (Some x) (Some y) h k = by (nat_lt y x) refl
 
 -- where nothing is shown there is nothing
 pub nowhere : (P : ℕ → Type 0) (number : ℕ) (spot : ℕ → rules.Spot) (least : Option ℕ) (u : Unit {0})
-    → IsLeast P least → IsShownWith number spot least (Ok u) → (n : ℕ) → P n → ⊥
+    → IsLeastNumber P least → IsShownWith number spot least (Ok u) → (n : ℕ) → P n → ⊥
 nowhere P number spot None u h s = h
 nowhere P number spot (Some k) u h s = absurd s
 
@@ -119,7 +119,7 @@ module _ (system : System ℕ) (dropped : List ℕ) where
   outside : (order : Option ℕ) (r : Rule) → IsAskedUpTo order r → (spot : rules.Spot)
       → KeepsBelow system dropped (rule_number r)
       → IsFirstShown system dropped r spot → (e : FragmentFault)
-      → IsShown (rule_number r) spot e → IsRefusedUpTo order system dropped e
+      → IsRuleShown (rule_number r) spot e → IsRefusedUpTo order system dropped e
   outside order r asked spot below first (Outside number there) s = record {
     rule = r;
     is_rule = sym s.0;
@@ -135,8 +135,8 @@ module _ (system : System ℕ) (dropped : List ℕ) where
   -- the rule is broken first by the least number that was found
   refuse : (order : Option ℕ) (r : Rule) → rule_number r < 8 → (spot : ℕ → rules.Spot) (P : ℕ → Type 0)
       → KeepsBelow system dropped (rule_number r)
-      → ((n : ℕ) → IsLeast P (Some n) → IsFirstShown system dropped r (spot n))
-      → (least : Option ℕ) → IsLeast P least → (e : FragmentFault) → IsShownWith (rule_number r) spot least (Err e)
+      → ((n : ℕ) → IsLeastNumber P (Some n) → IsFirstShown system dropped r (spot n))
+      → (least : Option ℕ) → IsLeastNumber P least → (e : FragmentFault) → IsShownWith (rule_number r) spot least (Err e)
       → IsRefusedUpTo order system dropped e
   refuse order r seven spot P below first None h e s = absurd s
   refuse order r seven spot P below first (Some n) h e s =
@@ -145,7 +145,7 @@ module _ (system : System ℕ) (dropped : List ℕ) where
   -- the same, where it is shown with variables alone
   at_variables : (r : Rule) (P : ℕ → Type 0) → ((n : ℕ) → P n → BreaksStaticRule system dropped r (AtVariable n))
       → ((n : ℕ) → BreaksStaticRule system dropped r (AtVariable n) → P n)
-      → (n : ℕ) → IsLeast P (Some n) → IsFirstShown system dropped r (AtVariable n)
+      → (n : ℕ) → IsLeastNumber P (Some n) → IsFirstShown system dropped r (AtVariable n)
   at_variables r P there back n h = record { breaks = there n h.0; is_first = λ other l b. before l b }
     where
       before : {other : rules.Spot} → IsShownBefore other (AtVariable n) → BreaksStaticRule system dropped r other → ⊥
@@ -165,24 +165,24 @@ module _ (system : System ℕ) (dropped : List ℕ) where
   s6_of (s6 b) = b
 
   module _ (p : GtsParts) (views : Views p system) where
-    pub refused1 : (order least : Option ℕ) → IsLeast (IsJointAt p) least → (e : FragmentFault)
+    pub refused1 : (order least : Option ℕ) → IsLeastNumber (IsJointAt p) least → (e : FragmentFault)
         → IsShownWith 1 AtEvent least (Err e) → IsRefusedUpTo order system dropped e
     refused1 order = refuse order S1 (omega arith) AtEvent (IsJointAt p) first_rule
         (first_joint_shown p system views dropped)
 
-    pub kept1 : (least : Option ℕ) (u : Unit {0}) → IsLeast (IsJointAt p) least → IsShownWith 1 AtEvent least (Ok u)
+    pub kept1 : (least : Option ℕ) (u : Unit {0}) → IsLeastNumber (IsJointAt p) least → IsShownWith 1 AtEvent least (Ok u)
         → KeepsBelow system dropped 2
     kept1 least u h s = next_rule S1 first_rule (no_joint_keeps p system views
         (nowhere (IsJointAt p) 1 AtEvent least u h s))
 
     module _ (sound : IsSound p) (marks moving : List Bool) (firsts : List (Option VarId))
-        (are : AreUnits p dropped marks moving firsts) (below : KeepsBelow system dropped 2) where
-      pub refused2 : (order least : Option ℕ) → IsLeast (IsStateless moving firsts) least → (e : FragmentFault)
+        (are : AreUnitMarks p dropped marks moving firsts) (below : KeepsBelow system dropped 2) where
+      pub refused2 : (order least : Option ℕ) → IsLeastNumber (IsStateless moving firsts) least → (e : FragmentFault)
           → IsShownWith 2 AtUnit least (Err e) → IsRefusedUpTo order system dropped e
       refused2 order = refuse order S2 (omega arith) AtUnit (IsStateless moving firsts) below
           (first_stateless_shown p system views dropped sound marks moving firsts are)
 
-      pub kept2 : (least : Option ℕ) (u : Unit {0}) → IsLeast (IsStateless moving firsts) least
+      pub kept2 : (least : Option ℕ) (u : Unit {0}) → IsLeastNumber (IsStateless moving firsts) least
           → IsShownWith 2 AtUnit least (Ok u) → KeepsBelow system dropped 3
       kept2 least u h s = next_rule S2 below (no_stateless_keeps p system views sound dropped marks moving firsts are
           (nowhere (IsStateless moving firsts) 2 AtUnit least u h s))
@@ -203,13 +203,13 @@ module _ (system : System ℕ) (dropped : List ℕ) where
 
   module _ {p : GtsParts} {kept : List KeptWay} (c : AreKeptWays p system dropped kept)
       (below : KeepsBelow system dropped 3) where
-    pub refused3 : (order least : Option ℕ) → IsLeast (OtherInGuard kept) least → (e : FragmentFault)
+    pub refused3 : (order least : Option ℕ) → IsLeastNumber (OtherInGuard kept) least → (e : FragmentFault)
         → IsShownWith 3 AtVariable least (Err e) → IsRefusedUpTo order system dropped e
     refused3 order = refuse order S3 (omega arith) AtVariable (OtherInGuard kept) below
         (at_variables S3 (OtherInGuard kept) (λ n h. s3 (guard_breaks c n h))
         (λ n b. guard_other c (below S1 (omega arith)) (below S2 (omega arith)) n (s3_of b)))
 
-    pub kept3 : (least : Option ℕ) (u : Unit {0}) → IsLeast (OtherInGuard kept) least
+    pub kept3 : (least : Option ℕ) (u : Unit {0}) → IsLeastNumber (OtherInGuard kept) least
         → IsShownWith 3 AtVariable least (Ok u) → KeepsBelow system dropped 4
     kept3 least u h s = next_rule S3 below (keeps_s3 cases_eq system dropped (below S2 (omega arith))
         (unbroken_s3 c (below S1 (omega arith)) (below S2 (omega arith))
@@ -225,32 +225,32 @@ module _ (system : System ℕ) (dropped : List ℕ) where
         break4 n (inl h) = s4 (action_breaks a.ways n h)
         break4 n (inr h) = s4 (wrong_breaks a n h)
 
-        pub refused4 : (order x y z : Option ℕ) → z ≡ lesser_of x y → IsLeast (OtherInAction kept) x
-            → IsLeast (IsWrongAt reaches) y → (e : FragmentFault) → IsShownWith 4 AtVariable z (Err e)
+        pub refused4 : (order x y z : Option ℕ) → z ≡ lesser_of_both x y → IsLeastNumber (OtherInAction kept) x
+            → IsLeastNumber (IsWrongAt reaches) y → (e : FragmentFault) → IsShownWith 4 AtVariable z (Err e)
             → IsRefusedUpTo order system dropped e
         refused4 order x y z is h k e s = refuse order S4 (omega arith) AtVariable BreaksFour below
             (at_variables S4 BreaksFour break4 (λ n b. broken_s4 a (below S1 (omega arith)) (below S2 (omega arith)) n
             (s4_of b)))
-            (lesser_of x y) (lesser_least (OtherInAction kept) (IsWrongAt reaches) x y h k) e
+            (lesser_of_both x y) (lesser_least (OtherInAction kept) (IsWrongAt reaches) x y h k) e
             (subst (λ (o : Option ℕ). IsShownWith 4 AtVariable o (Err e)) is s)
 
-        pub kept4 : (x y z : Option ℕ) (u : Unit {0}) → z ≡ lesser_of x y → IsLeast (OtherInAction kept) x
-            → IsLeast (IsWrongAt reaches) y → IsShownWith 4 AtVariable z (Ok u) → KeepsBelow system dropped 5
+        pub kept4 : (x y z : Option ℕ) (u : Unit {0}) → z ≡ lesser_of_both x y → IsLeastNumber (OtherInAction kept) x
+            → IsLeastNumber (IsWrongAt reaches) y → IsShownWith 4 AtVariable z (Ok u) → KeepsBelow system dropped 5
         kept4 x y z u is h k s =
-            let none = nowhere BreaksFour 4 AtVariable (lesser_of x y) u
+            let none = nowhere BreaksFour 4 AtVariable (lesser_of_both x y) u
             (lesser_least (OtherInAction kept) (IsWrongAt reaches) x y h k)
             (subst (λ (o : Option ℕ). IsShownWith 4 AtVariable o (Ok u)) is s) in
             next_rule S4 below (keeps_s4 cases_eq system dropped (unbroken_s4 a (below S1 (omega arith))
             (below S2 (omega arith)) (λ n q. none n (inl q)) (λ n q. none n (inr q))))
 
       module _ (below : KeepsBelow system dropped 6) where
-        pub refused6 : (order least : Option ℕ) → IsLeast (IsAgainAt reaches) least → (e : FragmentFault)
+        pub refused6 : (order least : Option ℕ) → IsLeastNumber (IsAgainAt reaches) least → (e : FragmentFault)
             → IsShownWith 6 AtVariable least (Err e) → IsRefusedUpTo order system dropped e
         refused6 order = refuse order S6 (omega arith) AtVariable (IsAgainAt reaches) below
             (at_variables S6 (IsAgainAt reaches) (λ n h. s6 (again_breaks a n h))
             (λ n b. breaks_again a (below S1 (omega arith)) (below S2 (omega arith)) n (s6_of b)))
 
-        pub kept6 : (least : Option ℕ) (u : Unit {0}) → IsLeast (IsAgainAt reaches) least
+        pub kept6 : (least : Option ℕ) (u : Unit {0}) → IsLeastNumber (IsAgainAt reaches) least
             → IsShownWith 6 AtVariable least (Ok u) → KeepsBelow system dropped 7
         kept6 least u h s = next_rule S6 below (keeps_s6 cases_eq system dropped
             (unbroken_s6 a (below S1 (omega arith)) (below S2 (omega arith))
@@ -259,14 +259,14 @@ module _ (system : System ℕ) (dropped : List ℕ) where
   module _ {p : GtsParts} {kept : List KeptWay} {reaches : List Reach} {live : List Live}
       (d : AreLiveEdges p system dropped kept reaches live) where
     module _ (below : KeepsBelow system dropped 5) where
-      pub refused5 : (order least : Option ℕ) → IsLeast (IsShared live (length live)) least → (e : FragmentFault)
+      pub refused5 : (order least : Option ℕ) → IsLeastNumber (IsShared live (length live)) least → (e : FragmentFault)
           → IsShownWith 5 AtVariable least (Err e) → IsRefusedUpTo order system dropped e
       refused5 order = refuse order S5 (omega arith) AtVariable (IsShared live (length live)) below
           (at_variables S5 (IsShared live (length live)) (λ n h. s5
           (shared_breaks d (below S1 (omega arith)) (below S2 (omega arith)) n h))
           (λ n b. breaks_shared d (below S1 (omega arith)) (below S2 (omega arith)) n (s5_of b)))
 
-      pub kept5 : (least : Option ℕ) (u : Unit {0}) → IsLeast (IsShared live (length live)) least
+      pub kept5 : (least : Option ℕ) (u : Unit {0}) → IsLeastNumber (IsShared live (length live)) least
           → IsShownWith 5 AtVariable least (Ok u) → KeepsBelow system dropped 6
       kept5 least u h s = next_rule S5 below (keeps_s5 cases_eq system dropped
           (unbroken_s5 d (below S1 (omega arith)) (below S2 (omega arith))
@@ -296,7 +296,7 @@ module _ (system : System ℕ) (dropped : List ℕ) where
 pub units_are : (p : GtsParts) (dropped given : List ℕ) (count : ℕ) (marks seen moving : List Bool)
     (firsts : List (Option VarId)) → dropped ≡ given → count ≡ length p.events.items → seen ≡ marks
     → AreMarks count given marks → AreMoving p seen (length p.events.items) moving
-    → AreFirstStates p (length p.variables.items) firsts → AreUnits p dropped marks moving firsts
+    → AreFirstStates p (length p.variables.items) firsts → AreUnitMarks p dropped marks moving firsts
 units_are p dropped given count marks seen moving firsts i j k a b c = record {
   are_marks = subst (λ (z : List ℕ). AreMarks (length p.events.items) z marks) (sym i)
       (subst (λ (z : ℕ). AreMarks z given marks) j a);
@@ -305,25 +305,25 @@ units_are p dropped given count marks seen moving firsts i j k a b c = record {
 }
 
 pub stateless_as : (moving seen : List Bool) (firsts read : List (Option VarId)) (least : Option ℕ) → seen ≡ moving
-    → read ≡ firsts → IsLeast (IsStateless seen read) least → IsLeast (IsStateless moving firsts) least
+    → read ≡ firsts → IsLeastNumber (IsStateless seen read) least → IsLeastNumber (IsStateless moving firsts) least
 stateless_as moving seen firsts read least i j h =
-    subst (λ (z : List (Option VarId)). IsLeast (IsStateless moving z) least) j
-    (subst (λ (z : List Bool). IsLeast (IsStateless z read) least) i h)
+    subst (λ (z : List (Option VarId)). IsLeastNumber (IsStateless moving z) least) j
+    (subst (λ (z : List Bool). IsLeastNumber (IsStateless z read) least) i h)
 
 module _ (system : System ℕ) (dropped : List ℕ) where
   pub ways_are : (p : GtsParts) (u : Units) (seen : List Bool) (kept : List KeptWay) → IsSound p
       → HasUnits p u system dropped → seen ≡ u.marks.items
-      → AreKept p seen (length p.events.items) 0 kept → AreKeptWays p system dropped kept
+      → AreKeptWaysBefore p seen (length p.events.items) 0 kept → AreKeptWays p system dropped kept
   ways_are p u seen kept sound h i k = record {
     views = h.views;
     sound = sound;
     marks = u.marks.items;
     marked = h.units.are_marks;
-    are = subst (λ (z : List Bool). AreKept p z (length p.events.items) 0 kept) i k;
+    are = subst (λ (z : List Bool). AreKeptWaysBefore p z (length p.events.items) 0 kept) i k;
   }
 
   pub judged6 : (order : Option ℕ) (p : GtsParts) (reaches : List Reach) → HasReaches 6 p reaches system dropped
-      → (least : Option ℕ) → IsLeast (IsAgainAt reaches) least → (r : Result (Unit {0}) FragmentFault)
+      → (least : Option ℕ) → IsLeastNumber (IsAgainAt reaches) least → (r : Result (Unit {0}) FragmentFault)
       → IsShownWith 6 AtVariable least r → OnResult (λ u. HasReaches 7 p reaches system dropped)
       (IsRefusedUpTo order system dropped) r
   judged6 order p reaches h least l (Ok u) s = record {
@@ -354,16 +354,16 @@ module _ (system : System ℕ) (dropped : List ℕ) where
   }
 
   -- what is known where a rule more is kept
-  seen_next : (order : Option ℕ) (p : GtsParts) → IsSeen 7 p system dropped
+  seen_next : (order : Option ℕ) (p : GtsParts) → IsSeenBelow 7 p system dropped
       → (r : Result (Unit {0}) FragmentFault)
       → OnResult (λ u. KeepsBelow system dropped 8) (IsRefusedUpTo order system dropped) r
-      → OnResult (λ u. IsSeen 8 p system dropped) (IsRefusedUpTo order system dropped) r
+      → OnResult (λ u. IsSeenBelow 8 p system dropped) (IsRefusedUpTo order system dropped) r
   seen_next order p h (Ok u) k = record { views = h.views; keeps = k }
   seen_next order p h (Err e) k = k
 
-  pub values_judged : (order : Option ℕ) (p : GtsParts) → IsSound p → IsSeen 7 p system dropped
+  pub values_judged : (order : Option ℕ) (p : GtsParts) → IsSound p → IsSeenBelow 7 p system dropped
       → (found : Option Wide) → IsFirstWide p found → (r : Result (Unit {0}) FragmentFault) → IsWideShown found r
-      → OnResult (λ u. IsSeen 8 p system dropped) (IsRefusedUpTo order system dropped) r
+      → OnResult (λ u. IsSeenBelow 8 p system dropped) (IsRefusedUpTo order system dropped) r
   values_judged order p sound h found f r s = seen_next order p h r
       (judged7 system dropped p h.views sound h.keeps order found f r s)
 

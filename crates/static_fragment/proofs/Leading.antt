@@ -20,16 +20,16 @@ use Rattle.gts_core.specs.View.{variable_of}
 use Rattle.gts_core.specs.declared.system.Variable.{Variable}
 use Rattle.gts_core.specs.declared.system.GtsParts.{GtsParts}
 use Rattle.mode_search.specs.Modes.{transition_of}
-use Rattle.mode_search.specs.Moves.{IsStep, IsWrong}
+use Rattle.mode_search.specs.Moves.{IsModeStep, IsWrong}
 use Rattle.mode_search.specs.declared.moves.Move.{Move}
 use Rattle.mode_search.specs.declared.moves.Move.TheVariants.{To, Wrong}
 use Rattle.mode_search.specs.Kept.{IsLocal, IsKeptAt, OtherInAction}
 use Rattle.mode_search.specs.declared.kept.KeptWay.{KeptWay}
-use Rattle.mode_trees.specs.Views.{row_of, number_in}
+use Rattle.mode_trees.specs.Views.{edge_row, number_in}
 use Rattle.mode_trees.specs.declared.forests.Edge.{Edge}
 use Rattle.mode_search.specs.Reached.{Setting, Leads, IsEdgeOf, IsReachable, here, along, HasWrong}
 use Rattle.mode_search.specs.declared.searching.Reach.{Reach}
-use Rattle.mode_search.specs.Rows.{is_of, ways_of}
+use Rattle.mode_search.specs.Rows.{is_of, variable_ways}
 use Rattle.mode_search.specs.Reaches.{IsWrongAt}
 use Rattle.static_fragment.specs.Setting.{AreKeptWays, AreReached, label_in}
 use Rattle.ar_firing.specs.Forest as firing
@@ -73,14 +73,14 @@ pub record InRow (kept : List KeptWay) (n : ℕ) (k : KeptWay) : Type 0 where
   pub visible : k.visible ≡ true
   pub number : k.mode.variable.n ≡ n
 
-pub in_row : (kept : List KeptWay) (n q : ℕ) (k : KeptWay) → Stands (ways_of n kept) q k → InRow kept n k
+pub in_row : (kept : List KeptWay) (n q : ℕ) (k : KeptWay) → Stands (variable_ways n kept) q k → InRow kept n k
 in_row kept n q k st =
     let r = passed (is_of n) kept q k st in
     let b = and_parts k.visible (nat_eq k.mode.variable.n n) r.2 in
     record { place = r.0; stands = r.1; visible = b.0; number = eqb-true k.mode.variable.n n b.1 }
 
 row_has : (kept : List KeptWay) (n q : ℕ) (k : KeptWay) → Stands kept q k → k.visible ≡ true → k.mode.variable.n ≡ n
-    → (j : ℕ) × Stands (ways_of n kept) j k
+    → (j : ℕ) × Stands (variable_ways n kept) j k
 row_has kept n q k st v e =
     passes (is_of n) kept q k st (ap (λ (b : Bool). b && nat_eq k.mode.variable.n n) v ∙ eq-eqb k.mode.variable.n n
     e)
@@ -104,7 +104,7 @@ module _ {p : GtsParts} {system : System ℕ} {dropped : List ℕ} {kept : List 
     (c : AreKeptWays p system dropped kept) where
   -- what is looked at of the variable
   abbrev pub looked : ℕ → Variable → Setting
-  looked n v = record { parts = p; number = n; domain = values_of v.domain; ways = ways_of n kept }
+  looked n v = record { parts = p; number = n; domain = values_of v.domain; ways = variable_ways n kept }
 
   -- a way of a variable's row, as the system has it
   pub record Row (n : ℕ) (v : Variable) (k : KeptWay) : Type 0 where
@@ -115,7 +115,7 @@ module _ {p : GtsParts} {system : System ℕ} {dropped : List ℕ} {kept : List 
     pub is_state : v.is_state ≡ true
 
   pub row_at : (n : ℕ) (v : Variable) → Stands p.variables.items n v → (q : ℕ) (k : KeptWay)
-      → Stands (ways_of n kept) q k → Row n v k
+      → Stands (variable_ways n kept) q k → Row n v k
   row_at n v sv q k st =
       let i = in_row kept n q k st in
       let l = label_at c i.place k i.stands in
@@ -154,8 +154,8 @@ module _ {p : GtsParts} {system : System ℕ} {dropped : List ℕ} {kept : List 
       → f.Edge system dropped (label_in p e) n e.from e.to × (v.is_state ≡ true)
   edge_there n v sv e h =
       let r = row_at n v sv h.place h.way h.stands in
-      let step : IsStep (At n e.from) (transition_of r.at.is.guard r.at.is.action.items) n (values_of v.domain) e.to =
-      subst (λ (d : Transition ℕ). IsStep (At n e.from) d n (values_of v.domain) e.to)
+      let step : IsModeStep (At n e.from) (transition_of r.at.is.guard r.at.is.action.items) n (values_of v.domain) e.to =
+      subst (λ (d : Transition ℕ). IsModeStep (At n e.from) d n (values_of v.domain) e.to)
       (transition_there r.label h.way r.at n (values_of v.domain) e.from (To e.to) h.leads) h.leads.is in (
         subst (λ (z : Label). f.Edge system dropped z n e.from e.to)
             (sym (label_is r.label h.way r.at e h.is_event h.is_way)) (record {
@@ -193,7 +193,7 @@ module _ {p : GtsParts} {system : System ℕ} {dropped : List ℕ} {kept : List 
       pub at : IsKeptAt p c.marks l way
       pub is : leaf_at at ≡ w
       pub place : ℕ
-      pub stands : Stands (ways_of n kept) place way
+      pub stands : Stands (variable_ways n kept) place way
       pub local : IsLocal p way.way.n at.is.guard at.is.action
 
     pub in_its : (l : Label) (w : Ways ℕ) (o : IsOpen system dropped l w)
@@ -262,7 +262,7 @@ abbrev pub row_with : Value → Label → Value → firing.Row
 row_with a l b = record { from = a; label = l; to = b }
 
 pub row_is : (p : GtsParts) (e : Edge) (row : firing.Row) → e.from ≡ row.from → label_in p e ≡ row.label
-    → e.to ≡ row.to → row_of (number_in p) e ≡ row
+    → e.to ≡ row.to → edge_row (number_in p) e ≡ row
 row_is p e row i j k = ap (λ (z : Value). row_with z (label_in p e) e.to) i ∙
     (ap (λ (z : Label). row_with row.from z e.to) j ∙ ap (λ (z : Value). row_with row.from row.label z) k)
 
@@ -379,10 +379,10 @@ module _ {p : GtsParts} {system : System ℕ} {dropped : List ℕ} {kept : List 
           stands = b.stands;
           is_one = record {
             place = b.is_one.place;
-            stands = subst (λ (z : firing.Row). Stands (map (row_of (number_in p)) b.reach.edges.items) b.is_one.place
+            stands = subst (λ (z : firing.Row). Stands (map (edge_row (number_in p)) b.reach.edges.items) b.is_one.place
                 z)
                 (row_is p b.edge row b.is_from b.label b.is_to)
-                (stands_map (row_of (number_in p)) b.reach.edges.items b.is_one.place b.edge b.is_one.stands);
+                (stands_map (edge_row (number_in p)) b.reach.edges.items b.is_one.place b.edge b.is_one.stands);
           };
         }
 
@@ -393,7 +393,7 @@ module _ {p : GtsParts} {system : System ℕ} {dropped : List ℕ} {kept : List 
 
   pub row_live : EdgesAreLive p system dropped reaches
   row_live n r st row o =
-      let b = stands_map_back (row_of (number_in p)) r.edges.items o.place row o.stands in
+      let b = stands_map_back (edge_row (number_in p)) r.edges.items o.place row o.stands in
       subst (λ (z : firing.Row). IsLive system dropped z.label n z.from z.to) b.2
       (live_there n r st b.0 (one_here r.edges.items o.place b.0 b.1))
 

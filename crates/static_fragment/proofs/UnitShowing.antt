@@ -6,12 +6,12 @@ use Rattle.ar_firing.specs.Rules.{BreaksS1, BreaksS2, BreaksS7, ObserverBreaksS7
 use Rattle.gts_core.specs.View.{Views}
 use Rattle.gts_core.specs.Sound.{IsSound}
 use Rattle.gts_core.specs.declared.system.GtsParts.{GtsParts}
-use Rattle.mode_search.specs.Events.{IsLeast, IsJointAt, IsStateless}
+use Rattle.mode_search.specs.Events.{IsLeastNumber, IsJointAt, IsStateless}
 use Rattle.mode_search.specs.Wide.{IsFirstWide}
 use Rattle.mode_search.specs.declared.searches.Wide.{Wide}
 use Rattle.mode_search.specs.declared.searches.Wide.TheVariants as wide
-use Rattle.static_fragment.specs.Units.{AreUnits}
-use Rattle.static_fragment.specs.UnitShown.{IsFirstShown, spot_of}
+use Rattle.static_fragment.specs.Units.{AreUnitMarks}
+use Rattle.static_fragment.specs.UnitShown.{IsFirstShown, spot_of_wide}
 use Rattle.static_fragment.proofs.Units.{joint_breaks, breaks_joint, stateless_breaks, breaks_stateless}
 use Rattle.static_fragment.proofs.Values.{flow_breaks, breaks_flow, observer_breaks, breaks_observer}
 
@@ -29,14 +29,14 @@ module _ (p : GtsParts) (system : System ℕ) (views : Views p system) (dropped 
   s7_observer_of : {n : ℕ} → BreaksStaticRule system dropped S7 (AtObserver n) → ObserverBreaksS7 system n
   s7_observer_of (s7_observer b) = b
 
-  pub first_joint_shown : (n : ℕ) → IsLeast (IsJointAt p) (Some n) → IsFirstShown system dropped S1 (AtEvent n)
+  pub first_joint_shown : (n : ℕ) → IsLeastNumber (IsJointAt p) (Some n) → IsFirstShown system dropped S1 (AtEvent n)
   first_joint_shown n h = record { breaks = s1 (joint_breaks p system views n h.0); is_first = λ o l b. before l b }
     where
       before : {other : Spot} → IsShownBefore other (AtEvent n) → BreaksStaticRule system dropped S1 other → ⊥
       before (events {m = k} l) b = let q = h.1 k (breaks_joint p system views k (s1_of b)) in absurd (omega (arith, l, q))
 
   pub first_stateless_shown : IsSound p → (marks moving : List Bool) (firsts : List (Option VarId))
-      → AreUnits p dropped marks moving firsts → (n : ℕ) → IsLeast (IsStateless moving firsts) (Some n)
+      → AreUnitMarks p dropped marks moving firsts → (n : ℕ) → IsLeastNumber (IsStateless moving firsts) (Some n)
       → IsFirstShown system dropped S2 (AtUnit n)
   first_stateless_shown sound marks moving firsts u n h = record {
     breaks = s2 (stateless_breaks p system views sound dropped marks moving firsts u n h.0);
@@ -49,7 +49,7 @@ module _ (p : GtsParts) (system : System ℕ) (views : Views p system) (dropped 
           absurd (omega (arith, l, q))
 
   pub first_wide_shown : IsSound p → (found : Wide) → IsFirstWide p (Some found)
-      → IsFirstShown system dropped S7 (spot_of found)
+      → IsFirstShown system dropped S7 (spot_of_wide found)
   first_wide_shown sound (wide.Flow n) h = record {
     breaks = s7 (flow_breaks p system views sound h.0.0 n h.0.1);
     is_first = λ o l b. before l b;

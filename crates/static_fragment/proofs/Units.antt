@@ -14,8 +14,8 @@ use Rattle.gts_core.specs.Sound.{IsSound}
 use Rattle.gts_core.specs.declared.system.Variable.{Variable}
 use Rattle.gts_core.specs.declared.system.GtsParts.{GtsParts}
 use Rattle.mode_search.specs.Modes.{IsStateAt}
-use Rattle.mode_search.specs.Events.{AreMarks, IsJointAt, Moves, AreMoving, IsStateless}
-use Rattle.static_fragment.specs.Units.{AreUnits, IsMovingState}
+use Rattle.mode_search.specs.Events.{AreMarks, IsJointAt, MovesUnit, AreMoving, IsStateless}
+use Rattle.static_fragment.specs.Units.{AreUnitMarks, IsMovingState}
 use Rattle.static_fragment.proofs.Labels.{joint_sync, sync_joint, label_there, label_back, system_variable, parts_variable, unmarked_stays, kept_unmarked}
 
 module _ (p : GtsParts) (system : System ℕ) (views : Views p system) where
@@ -80,7 +80,7 @@ module _ (p : GtsParts) (system : System ℕ) (views : Views p system) where
       ap (λ (z : s.Variable ℕ). z.value) (stands_one system.net.variables n m.variable (variable_of n x) m.stands there)
 
   module _ (dropped : List ℕ) (marks : List Bool) (are : AreMarks (length p.events.items) dropped marks) where
-    pub transitions_moves : (unit : ℕ) → HasTransitions system dropped unit → Moves p marks (length p.events.items) unit
+    pub transitions_moves : (unit : ℕ) → HasTransitions system dropped unit → MovesUnit p marks (length p.events.items) unit
     transitions_moves unit h =
         let i = label_back p system views h.label h.way h.is_kept.is_way in
         let w = stands_within i.event.ways.items h.label.way i.way i.has in
@@ -96,7 +96,7 @@ module _ (p : GtsParts) (system : System ℕ) (views : Views p system) where
           has = first.1;
         }
 
-    pub moves_transitions : (unit : ℕ) → Moves p marks (length p.events.items) unit → HasTransitions system dropped unit
+    pub moves_transitions : (unit : ℕ) → MovesUnit p marks (length p.events.items) unit → HasTransitions system dropped unit
     moves_transitions unit m =
         let l : Label = record { event = m.number; way = 0 } in
         let i = label_there p system views l m.event m.way m.stands m.has in
@@ -116,7 +116,7 @@ module _ (p : GtsParts) (system : System ℕ) (views : Views p system) where
       transitions_moving sound unit h = go
           (stands_some moving unit (subst (λ (z : ℕ). unit < z) (sym move.long) within))
         where
-          m : Moves p marks (length p.events.items) unit
+          m : MovesUnit p marks (length p.events.items) unit
           m = transitions_moves unit h
 
           within : unit < length p.units.items
@@ -147,7 +147,7 @@ module _ (p : GtsParts) (system : System ℕ) (views : Views p system) where
           }
 
   module _ (sound : IsSound p) (dropped : List ℕ) (marks moving : List Bool) (firsts : List (Option VarId))
-      (u : AreUnits p dropped marks moving firsts) where
+      (u : AreUnitMarks p dropped marks moving firsts) where
     -- units without a first state variable have none
     none_states : (unit : ℕ) → Stands firsts unit None → HasNo system.net.variables (IsStateOf unit)
     none_states unit h = record {

@@ -7,25 +7,25 @@ use Rattle.ar_meaning.specs.Systems.{System}
 use Rattle.ar_firing.specs.Fragment.{IsReached, IsLive}
 use Rattle.ar_firing.specs.Forest.{Row}
 use Rattle.gts_core.specs.declared.system.GtsParts.{GtsParts}
-use Rattle.mode_trees.specs.Views.{row_of, number_in}
+use Rattle.mode_trees.specs.Views.{edge_row, number_in}
 use Rattle.mode_search.specs.declared.searching.Reach.{Reach}
 
 -- the edges of what each variable reaches, with their labels, are live edges of it
 abbrev pub EdgesAreLive : GtsParts → System ℕ → List ℕ → List Reach → Type 0
 EdgesAreLive p system dropped reaches = (n : ℕ) (r : Reach) → Stands reaches n r
-    → (row : Row) → IsOneOf (map (row_of (number_in p)) r.edges.items) row
+    → (row : Row) → IsOneOf (map (edge_row (number_in p)) r.edges.items) row
     → IsLive system dropped row.label n row.from row.to
 
 -- a live edge, and one of the edges of what its variable reaches, which is it
-pub record IsAmong (p : GtsParts) (reaches : List Reach) (n : ℕ) (row : Row) : Type 0 where
+pub record IsReachedEdge (p : GtsParts) (reaches : List Reach) (n : ℕ) (row : Row) : Type 0 where
   pub reach : Reach
   pub stands : Stands reaches n reach
-  pub is_one : IsOneOf (map (row_of (number_in p)) reach.edges.items) row
+  pub is_one : IsOneOf (map (edge_row (number_in p)) reach.edges.items) row
 
 -- each live edge is one of these
 abbrev pub LiveAreEdges : GtsParts → System ℕ → List ℕ → List Reach → Type 0
 LiveAreEdges p system dropped reaches = (n : ℕ) (row : Row) → IsLive system dropped row.label n row.from row.to
-    → IsAmong p reaches n row
+    → IsReachedEdge p reaches n row
 
 -- the modes of what each state variable reaches are reached
 abbrev pub ModesAreReached : GtsParts → System ℕ → List ℕ → List Reach → Type 0

@@ -25,15 +25,15 @@ pub record IsRecognised (system : System ℕ) (dropped : List ℕ) (trees : List
   pub forest : IsForest system dropped trees
 
 -- the rule of this number is the least that the system breaks, and this is the first thing that it is shown with
-pub record IsOutside (system : System ℕ) (dropped : List ℕ) (number : ℕ) (spot : Spot) : Type 0 where
+pub record IsOutsideFragment (system : System ℕ) (dropped : List ℕ) (number : ℕ) (spot : Spot) : Type 0 where
   pub rule : Rule
   pub is_rule : rule_number rule ≡ number
   pub first : IsFirstBroken system dropped rule (spot_of spot)
 
 -- why the system was refused; want of memory says nothing of it
-abbrev pub IsRefused : System ℕ → List ℕ → FragmentFault → Type 0
-IsRefused system dropped (Outside number spot) = IsOutside system dropped number spot
-IsRefused system dropped Memory = Unit {0}
+abbrev pub IsFragmentRefusal : System ℕ → List ℕ → FragmentFault → Type 0
+IsFragmentRefusal system dropped (Outside number spot) = IsOutsideFragment system dropped number spot
+IsFragmentRefusal system dropped Memory = Unit {0}
 
 -- the system keeps every rule that is asked where only cuts of at most so many events are to be listed, and these are
 -- the trees of its mode variables

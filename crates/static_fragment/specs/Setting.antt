@@ -6,7 +6,7 @@ use Rattle.gts_core.specs.View.{Views}
 use Rattle.gts_core.specs.Sound.{IsSound}
 use Rattle.gts_core.specs.declared.system.GtsParts.{GtsParts}
 use Rattle.mode_search.specs.Events.{AreMarks}
-use Rattle.mode_search.specs.Kept.{AreKept}
+use Rattle.mode_search.specs.Kept.{AreKeptWaysBefore}
 use Rattle.mode_search.specs.declared.kept.KeptWay.{KeptWay}
 use Rattle.mode_trees.specs.declared.forests.Edge.{Edge}
 use Rattle.mode_trees.specs.Views.{number_in}
@@ -21,7 +21,7 @@ pub record AreKeptWays (p : GtsParts) (system : System ℕ) (dropped : List ℕ)
   pub sound : IsSound p
   pub marks : List Bool
   pub marked : AreMarks (length p.events.items) dropped marks
-  pub are : AreKept p marks (length p.events.items) 0 kept
+  pub are : AreKeptWaysBefore p marks (length p.events.items) 0 kept
 
 -- and this is what each variable reaches
 pub record AreReached (p : GtsParts) (system : System ℕ) (dropped : List ℕ) (kept : List KeptWay) (reaches : List Reach)

@@ -6,11 +6,11 @@ use Rattle.gts_core.specs.View.{Views}
 use Rattle.gts_core.specs.declared.system.GtsParts.{GtsParts}
 use Rattle.mode_search.specs.declared.kept.KeptWay.{KeptWay}
 use Rattle.mode_search.specs.declared.searching.Reach.{Reach}
-use Rattle.mode_search.specs.Reaches.{AreListed, AreReaches, IsAgainAt}
+use Rattle.mode_search.specs.Reaches.{AreKeptWaysOf, AreReaches, IsAgainAt}
 use Rattle.mode_search.specs.Sharing.{IsSharing}
 use Rattle.mode_search.specs.declared.listing.Live.{Live}
 use Rattle.mode_search.specs.declared.sharing.Sharing.{Sharing}
-use Rattle.static_fragment.specs.Units.{AreUnits}
+use Rattle.static_fragment.specs.Units.{AreUnitMarks}
 use Rattle.static_fragment.specs.Setting.{AreKeptWays, AreReached, AreLiveEdges}
 use Rattle.static_fragment.specs.declared.faults.FragmentFault.{FragmentFault}
 use Rattle.static_fragment.specs.declared.stages.Units.{Units}
@@ -36,11 +36,11 @@ Judges before after result = (order : Option ℕ) (system : System ℕ) (dropped
 -- its units are known, and the first two rules are kept
 pub record HasUnits (p : GtsParts) (u : Units) (system : System ℕ) (dropped : List ℕ) : Type 0 where
   pub views : Views p system
-  pub units : AreUnits p dropped u.marks.items u.moving.items u.firsts.items
+  pub units : AreUnitMarks p dropped u.marks.items u.moving.items u.firsts.items
   pub keeps : KeepsBelow system dropped 3
 
 -- its kept ways are known, and the first three rules are kept
-pub record HasWays (p : GtsParts) (kept : List KeptWay) (system : System ℕ) (dropped : List ℕ) : Type 0 where
+pub record HasKeptWays (p : GtsParts) (kept : List KeptWay) (system : System ℕ) (dropped : List ℕ) : Type 0 where
   pub ways : AreKeptWays p system dropped kept
   pub keeps : KeepsBelow system dropped 4
 
@@ -63,14 +63,14 @@ pub record HasSharing (number : ℕ) (s : Sharing) (system : System ℕ) (droppe
   pub keeps : KeepsBelow system dropped number
 
 -- the parts stand for it, and the rules below a number are kept
-pub record IsSeen (number : ℕ) (p : GtsParts) (system : System ℕ) (dropped : List ℕ) : Type 0 where
+pub record IsSeenBelow (number : ℕ) (p : GtsParts) (system : System ℕ) (dropped : List ℕ) : Type 0 where
   pub views : Views p system
   pub keeps : KeepsBelow system dropped number
 
 -- this is what the variables of the parts reach by some of its ways
 pub record AreFromWays (p : GtsParts) (reaches : List Reach) : Type 0 where
   pub kept : List KeptWay
-  pub listed : AreListed p kept
+  pub listed : AreKeptWaysOf p kept
   pub are : AreReaches p kept (length p.variables.items) reaches
 
 -- no edge enters a mode again

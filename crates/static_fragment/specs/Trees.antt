@@ -5,7 +5,7 @@ use Rattle.gts_core.specs.declared.system.Variable.{Variable}
 use Rattle.gts_core.specs.declared.system.GtsParts.{GtsParts}
 use Rattle.mode_trees.specs.declared.forests.ModeTree.{ModeTree}
 use Rattle.mode_search.specs.declared.searching.Reach.{Reach}
-use Rattle.mode_trees.specs.Below.{IsBelow}
+use Rattle.mode_trees.specs.Below.{AreEdgesBelow}
 use Rattle.static_fragment.specs.Units.{IsMovingState}
 
 -- the tree of one of the first so many variables, a state variable of a unit that moves
@@ -16,7 +16,7 @@ pub record IsTreeAt (p : GtsParts) (moving : List Bool) (reaches : List Reach) (
     pub first : tree.first ≡ state.variable.value
     pub reach : Reach
     pub stands : Stands reaches tree.variable.n reach
-    pub edges : IsBelow reach.edges.items tree.first 0 tree.edges.items
+    pub edges : AreEdgesBelow reach.edges.items tree.first 0 tree.edges.items
 
 -- the trees of those of the first so many variables, each once, by number
 pub record AreTreesBelow (p : GtsParts) (moving : List Bool) (reaches : List Reach) (count : ℕ) (trees : List ModeTree)

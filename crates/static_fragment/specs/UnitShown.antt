@@ -11,6 +11,6 @@ pub record IsFirstShown {V : Type 0} (sys : System V) (dropped : List ℕ) (rule
   pub is_first : (other : Spot) → IsShownBefore other spot → BreaksStaticRule sys dropped rule other → ⊥
 
 -- what a flow or an observer with too many possible values is shown as
-abbrev pub spot_of : Wide → Spot
-spot_of (wide.Flow n) = AtVariable n
-spot_of (wide.Observer n) = AtObserver n
+abbrev pub spot_of_wide : Wide → Spot
+spot_of_wide (wide.Flow n) = AtVariable n
+spot_of_wide (wide.Observer n) = AtObserver n

@@ -7,7 +7,7 @@ use Rattle.gts_core.specs.declared.system.GtsParts.{GtsParts}
 use Rattle.mode_search.specs.Events.{AreMarks, AreMoving, AreFirstStates}
 
 -- the marks of the dropped events, for each unit whether it moves, and its first state variable
-pub record AreUnits (p : GtsParts) (dropped : List ℕ) (marks moving : List Bool)
+pub record AreUnitMarks (p : GtsParts) (dropped : List ℕ) (marks moving : List Bool)
     (firsts : List (Option VarId)) : Type 0 where
   pub are_marks : AreMarks (length p.events.items) dropped marks
   pub are_moving : AreMoving p marks (length p.events.items) moving

@@ -12,12 +12,12 @@ ghost use Rattle.gts_core.specs.View.{Views};
 ghost use Rattle.gts_core.specs.Sound.{IsSound};
 ghost use Rattle.gts_core.specs.declared.system.Variable.{Variable};
 ghost use Rattle.gts_core.specs.declared.system.GtsParts.{GtsParts};
-ghost use Rattle.mode_search.specs.Events.{IsLeast, IsJointAt, AreMarks, AreMoving};
-ghost use Rattle.mode_search.specs.Events.{Moves, IsStateless};
+ghost use Rattle.mode_search.specs.Events.{IsLeastNumber, IsJointAt, AreMarks, AreMoving};
+ghost use Rattle.mode_search.specs.Events.{MovesUnit, IsStateless};
 ghost use Rattle.mode_search.specs.Wide.{IsWideFlow, IsWideObserver, IsFirstWide};
 ghost use Rattle.mode_search.specs.declared.searches.Wide.{Wide};
-ghost use Rattle.static_fragment.specs.Units.{AreUnits, IsMovingState};
-ghost use Rattle.static_fragment.specs.UnitShown.{IsFirstShown, spot_of};
+ghost use Rattle.static_fragment.specs.Units.{AreUnitMarks, IsMovingState};
+ghost use Rattle.static_fragment.specs.UnitShown.{IsFirstShown, spot_of_wide};
 
 /// Laws of the events, units, modes and values of which a rule is broken.
 ///
@@ -40,22 +40,22 @@ pub fn event_laws()
     ensures joint_keeps { (p : GtsParts) (system : System ℕ) → Views p system
         → ((n : ℕ) → IsJointAt p n → ⊥) → KeepsS1 system }
     ensures joint_first { (p : GtsParts) (system : System ℕ) (dropped : List ℕ) → Views p system → (n : ℕ)
-        → IsLeast (IsJointAt p) (Some n) → IsFirstShown system dropped S1 (AtEvent n) }
+        → IsLeastNumber (IsJointAt p) (Some n) → IsFirstShown system dropped S1 (AtEvent n) }
     ensures units_with_transitions { (p : GtsParts) (system : System ℕ) (dropped : List ℕ) (marks : List Bool)
         → Views p system → AreMarks (length p.events.items) dropped marks → (unit : ℕ)
-        → (HasTransitions system dropped unit ↔ Moves p marks (length p.events.items) unit) }
+        → (HasTransitions system dropped unit ↔ MovesUnit p marks (length p.events.items) unit) }
     ensures stateless_breaks { (p : GtsParts) (system : System ℕ) (dropped : List ℕ)
         (marks moving : List Bool) (firsts : List (Option VarId)) → Views p system → IsSound p
-        → AreUnits p dropped marks moving firsts → (unit : ℕ)
+        → AreUnitMarks p dropped marks moving firsts → (unit : ℕ)
         → (IsStateless moving firsts unit ↔ BreaksS2 system dropped unit) }
     ensures stateless_keeps { (p : GtsParts) (system : System ℕ) (dropped : List ℕ)
         (marks moving : List Bool) (firsts : List (Option VarId)) → Views p system → IsSound p
-        → AreUnits p dropped marks moving firsts
+        → AreUnitMarks p dropped marks moving firsts
         → ((unit : ℕ) → IsStateless moving firsts unit → ⊥) → KeepsS2 system dropped }
     ensures stateless_first { (p : GtsParts) (system : System ℕ) (dropped : List ℕ)
         (marks moving : List Bool) (firsts : List (Option VarId)) → Views p system → IsSound p
-        → AreUnits p dropped marks moving firsts → (unit : ℕ)
-        → IsLeast (IsStateless moving firsts) (Some unit)
+        → AreUnitMarks p dropped marks moving firsts → (unit : ℕ)
+        → IsLeastNumber (IsStateless moving firsts) (Some unit)
         → IsFirstShown system dropped S2 (AtUnit unit) }
     ensures mode_variables { (p : GtsParts) (system : System ℕ) (dropped : List ℕ)
         (marks moving : List Bool) → Views p system → IsSound p
@@ -75,5 +75,5 @@ pub fn event_laws()
         → KeepsS7 system }
     ensures wide_first { (p : GtsParts) (system : System ℕ) (dropped : List ℕ) → Views p system
         → IsSound p → (found : Wide) → IsFirstWide p (Some found)
-        → IsFirstShown system dropped S7 (spot_of found) }
+        → IsFirstShown system dropped S7 (spot_of_wide found) }
 {}

@@ -3,10 +3,10 @@
 ghost use Rattle.std.specs.Prelude.{ℕ, IfOk, IfErr};
 ghost use Rattle.ar_meaning.specs.Systems.{System};
 ghost use Rattle.gts_core.specs.View.{Views};
-ghost use Rattle.mode_search.specs.Events.{numbers_of};
+ghost use Rattle.mode_search.specs.Events.{plain_event_numbers};
 ghost use Rattle.mode_trees.specs.Views.{trees_of, number_in};
 ghost use Rattle.mode_trees.specs.Ways.{OwnTheirWays};
-ghost use Rattle.static_fragment.specs.Recognised.{IsRecognised, IsRefused, IsRecognisedUpTo, IsRefusedUpTo};
+ghost use Rattle.static_fragment.specs.Recognised.{IsRecognised, IsFragmentRefusal, IsRecognisedUpTo, IsRefusedUpTo};
 
 use crate::faults::FragmentFault;
 use crate::showing::{at_variable, at_whole};
@@ -33,11 +33,11 @@ use std::alloc::Global;
 /// `Memory` where memory was refused.
 pub fn recognise(alloc: Global, gts: &Gts, dropped: &[EventId]) -> Result<Forest, FragmentFault>
     ensures ok { (system : System ℕ) → Views gts.now system
-        → IfOk result (λ f. IsRecognised system (numbers_of dropped.now)
+        → IfOk result (λ f. IsRecognised system (plain_event_numbers dropped.now)
         (trees_of (number_in gts.now) f)) }
     ensures ways { IfOk result (λ f. OwnTheirWays gts.now f.trees.items) }
     ensures outside { (system : System ℕ) → Views gts.now system
-        → IfErr result (IsRefused system (numbers_of dropped.now)) }
+        → IfErr result (IsFragmentRefusal system (plain_event_numbers dropped.now)) }
 {
     recognise_up_to(alloc, gts, dropped, None)
 }
@@ -55,11 +55,11 @@ pub fn recognise_up_to(
     order: Option<u32>,
 ) -> Result<Forest, FragmentFault>
     ensures ok { (system : System ℕ) → Views gts.now system
-        → IfOk result (λ f. IsRecognisedUpTo order system (numbers_of dropped.now)
+        → IfOk result (λ f. IsRecognisedUpTo order system (plain_event_numbers dropped.now)
         (trees_of (number_in gts.now) f)) }
     ensures ways { IfOk result (λ f. OwnTheirWays gts.now f.trees.items) }
     ensures outside { (system : System ℕ) → Views gts.now system
-        → IfErr result (IsRefusedUpTo order system (numbers_of dropped.now)) }
+        → IfErr result (IsRefusedUpTo order system (plain_event_numbers dropped.now)) }
 {
     let parts = gts.parts();
     let units = judged_units(alloc, parts, dropped)?;

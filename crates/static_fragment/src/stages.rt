@@ -3,10 +3,10 @@
 ghost use Rattle.std.specs.Prelude.{◌≡◌, length, IfOk};
 ghost use Rattle.gts_core.specs.Sound.{IsSound};
 ghost use Rattle.gts_core.specs.View.{Views};
-ghost use Rattle.mode_search.specs.Events.{numbers_of, AreFirstStates};
-ghost use Rattle.mode_search.specs.Reaches.{AreListed};
-ghost use Rattle.static_fragment.specs.Shown.{lesser_of};
-ghost use Rattle.static_fragment.specs.Stages.{Judges, HasUnits, HasWays, HasReaches, HasSharing, IsSeen, AreFromWays};
+ghost use Rattle.mode_search.specs.Events.{plain_event_numbers, AreFirstStates};
+ghost use Rattle.mode_search.specs.Reaches.{AreKeptWaysOf};
+ghost use Rattle.static_fragment.specs.Shown.{lesser_of_both};
+ghost use Rattle.static_fragment.specs.Stages.{Judges, HasUnits, HasKeptWays, HasReaches, HasSharing, IsSeenBelow, AreFromWays};
 
 use crate::faults::{FragmentFault, Spot};
 use crate::showing::at_variable;
@@ -41,7 +41,7 @@ pub(crate) fn judged_units(
     ensures moving { IfOk result (λ u. length u.moving.items ≡ length parts.now.units.items) }
     ensures firsts { IfOk result (λ u. AreFirstStates parts.now
         (length parts.now.variables.items) u.firsts.items) }
-    ensures rules { Judges (λ system d. Views parts.now system × (d ≡ numbers_of dropped.now))
+    ensures rules { Judges (λ system d. Views parts.now system × (d ≡ plain_event_numbers dropped.now))
         (λ system d u. HasUnits parts.now u system d) result }
 {
     if let Some(event) = first_joint(parts) {
@@ -70,9 +70,9 @@ pub(crate) fn judged_ways(
     requires marks { length units.now.marks.items ≡ length parts.now.events.items }
     requires firsts { AreFirstStates parts.now (length parts.now.variables.items)
         units.now.firsts.items }
-    ensures listed { IfOk result (λ kept. AreListed parts.now kept.items) }
+    ensures listed { IfOk result (λ kept. AreKeptWaysOf parts.now kept.items) }
     ensures rules { Judges (HasUnits parts.now units.now)
-        (λ system d kept. HasWays parts.now kept.items system d) result }
+        (λ system d kept. HasKeptWays parts.now kept.items system d) result }
 {
     let kept = kept_ways(alloc, parts, &units.marks, &units.firsts)?;
     at_variable(3, least_guard(&kept))?;
@@ -86,9 +86,9 @@ pub(crate) fn judged_reaches(
     kept: &[KeptWay],
 ) -> Result<Vec<Reach>, FragmentFault>
     requires sound { IsSound parts.now }
-    requires listed { AreListed parts.now kept.now }
+    requires listed { AreKeptWaysOf parts.now kept.now }
     ensures found { IfOk result (λ reaches. AreFromWays parts.now reaches.items) }
-    ensures rules { Judges (HasWays parts.now kept.now)
+    ensures rules { Judges (HasKeptWays parts.now kept.now)
         (λ system d reaches. HasReaches 5 parts.now reaches.items system d) result }
 {
     let reaches = all_reached(alloc, parts, kept)?;
@@ -116,7 +116,7 @@ pub(crate) fn judged_sharing(
 // Refuses where the seventh rule is broken.
 pub(crate) fn judge_values(alloc: Global, parts: &GtsParts) -> Result<(), FragmentFault>
     requires { IsSound parts.now }
-    ensures { Judges (IsSeen 7 parts.now) (λ system d _. IsSeen 8 parts.now system d) result }
+    ensures { Judges (IsSeenBelow 7 parts.now) (λ system d _. IsSeenBelow 8 parts.now system d) result }
 {
     let Some(wide) = first_wide(alloc, parts)? else {
         return Ok(());
@@ -129,7 +129,7 @@ pub(crate) fn judge_values(alloc: Global, parts: &GtsParts) -> Result<(), Fragme
 
 // The lesser of two numbers, where there are both.
 fn lesser(a: Option<u32>, b: Option<u32>) -> Option<u32>
-    ensures { result ≡ lesser_of a b }
+    ensures { result ≡ lesser_of_both a b }
 {
     match (a, b) {
         (Some(m), Some(n)) => if n < m { Some(n) } else { Some(m) },

@@ -3,7 +3,7 @@ use Rattle.std.proofs.Common.{◌≡◌, suc, List, [], ◌∷◌, ◌++◌, Boo
 use Rattle.std.proofs.lemmas.List.{reverse-append}
 use Rattle.domains.specs.declared.Value.{Value}
 use Rattle.gts_core.specs.declared.system.GtsParts.{GtsParts}
-use Rattle.stepper.specs.Changes.{Point, before, below_by, Tells, AreTold}
+use Rattle.stepper.specs.Changes.{Point, before, below_by, TellsStepChanges, AreToldSteps}
 use Rattle.stepper.specs.declared.changes.StepChanges.{StepChanges}
 
 reverse_last : (cs : List StepChanges) (c : StepChanges) → reverse (cs ++ c ∷ []) ≡ c ∷ reverse cs
@@ -22,8 +22,8 @@ same_point a b u k f = go a.values b.values a.known b.known a.can b.can u k f
 module _ (p : GtsParts) where
   -- the steps that stand before the last one, and what the last one says
   pub told_back : (s : Point) (steps rest : List StepChanges) (c : StepChanges) → steps ≡ rest ++ c ∷ []
-      → AreTold p s (reverse steps) → Tells p s c × AreTold p (before p s c) (reverse rest)
-  told_back s steps rest c e h = subst (AreTold p s) (ap reverse e ∙ reverse_last rest c) h
+      → AreToldSteps p s (reverse steps) → TellsStepChanges p s c × AreToldSteps p (before p s c) (reverse rest)
+  told_back s steps rest c e h = subst (AreToldSteps p s) (ap reverse e ∙ reverse_last rest c) h
 
   -- as many as there are steps
   pub below_long : (s : Point) (steps : List StepChanges) → length (below_by p s steps) ≡ length steps

@@ -4,11 +4,11 @@ use Rattle.std.proofs.lemmas.Bool.{cases_lt}
 use Rattle.ar_base.proofs.Standing.{stands_some}
 use Rattle.domains.specs.declared.Value.{Value}
 use Rattle.ar_meaning.proofs.OneAnswer.{same_value}
-use Rattle.gts_core.specs.Readings.{value_at}
+use Rattle.gts_core.specs.Readings.{valuation_at}
 use Rattle.gts_core.proofs.Reading.{read_value}
 use Rattle.value_changes.specs.Changes.{HasChanged}
 
-past : (t : List Value) (n : ℕ) → length t ≤ n → value_at t n ≡ value_at [] 0
+past : (t : List Value) (n : ℕ) → length t ≤ n → valuation_at t n ≡ valuation_at [] 0
 past [] zero h = refl
 past [] (suc n) h = refl
 past (v ∷ t) zero h = absurd (omega (arith, h))
@@ -16,7 +16,7 @@ past (v ∷ t) (suc n) h = past t n (omega (arith, h))
 
 -- a value that did not change
 pub kept_value : (old new : List Value) → length old ≡ length new → (n : ℕ) → (HasChanged old new n → ⊥)
-    → value_at old n ≡ value_at new n
+    → valuation_at old n ≡ valuation_at new n
 kept_value old new long n kept = elim (cases_lt n (length old)) [
   | inl h ↦ (
       let v = stands_some old n h in

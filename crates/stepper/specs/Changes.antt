@@ -9,7 +9,7 @@ use Rattle.value_changes.specs.Changes.{AreChanges}
 use Rattle.value_changes.specs.Restoring.{restored}
 use Rattle.value_changes.specs.Restoring as marks
 use Rattle.way_flags.specs.Ways.{AreFlags}
-use Rattle.way_flags.specs.Turning.{turned}
+use Rattle.way_flags.specs.Turning.{flags_turned}
 use Rattle.stepper.specs.declared.changes.StepChanges.{StepChanges}
 
 -- the values, which of them are facts, and which ways can fire
@@ -35,12 +35,12 @@ pub record IsPoint (p : GtsParts) (s : Point) : Type 0 where
 abbrev pub before : GtsParts → Point → StepChanges → Point
 before p s step = record {
   values = restored p s.values step.flows.variables.items step.flows.old.items;
-  known = marks.turned s.known step.flows.turned.items;
-  can = turned s.can step.ways.items;
+  known = marks.marks_turned s.known step.flows.turned.items;
+  can = flags_turned s.can step.ways.items;
 }
 
 -- the step led here from a point that it gives back, and says which variables it changed
-pub record Tells (p : GtsParts) (s : Point) (step : StepChanges) : Type 0 where
+pub record TellsStepChanges (p : GtsParts) (s : Point) (step : StepChanges) : Type 0 where
   pub point : IsPoint p (before p s step)
   pub long : length step.flows.variables.items ≡ length step.flows.old.items
   pub changes : AreChanges (before p s step).values s.values step.flows.variables.items
@@ -51,9 +51,9 @@ below_by p s [] = []
 below_by p s (c ∷ cs) = (before p s c).values ∷ below_by p (before p s c) cs
 
 -- each of these steps, the last one first, says what it changed
-abbrev pub AreTold : GtsParts → Point → List StepChanges → Type 0
-AreTold p s [] = ⊤
-AreTold p s (c ∷ cs) = Tells p s c × AreTold p (before p s c) cs
+abbrev pub AreToldSteps : GtsParts → Point → List StepChanges → Type 0
+AreToldSteps p s [] = ⊤
+AreToldSteps p s (c ∷ cs) = TellsStepChanges p s c × AreToldSteps p (before p s c) cs
 
 -- the variables that the last step changed, where it was not undone, or else the undone step
 abbrev pub last_changed : Option StepChanges → List StepChanges → List VarId

@@ -5,7 +5,7 @@ use Rattle.flow_propagate.specs.Plan.{IsPlan}
 use Rattle.flow_changes.specs.Present.{IsPresent}
 use Rattle.way_flags.specs.Ways.{AreFlags}
 use Rattle.way_flags.specs.Index.{IsWayIndex}
-use Rattle.stepper.specs.Changes.{Point, point_at, below_by, last_changed, AreTold}
+use Rattle.stepper.specs.Changes.{Point, point_at, below_by, last_changed, AreToldSteps}
 use Rattle.stepper.specs.Steps.{Standing}
 use Rattle.stepper.specs.declared.stepper.Stepper.TheInside.{Inside}
 
@@ -27,9 +27,9 @@ standing_of s = record {
 
 -- each standing valuation is determined by its own state with right marks and flags, each step says what it changed,
 -- and the plan and the index are the system's
-pub record IsKept (s : Inside) : Type 0 where
+pub record IsSoundStepper (s : Inside) : Type 0 where
   pub present : IsPresent s.gts.now s.present
   pub flags : AreFlags s.gts.now s.present.determined.values.values.items s.can.items
-  pub told : AreTold s.gts.now (point_of s) (reverse s.steps.items)
+  pub told : AreToldSteps s.gts.now (point_of s) (reverse s.steps.items)
   pub plan : IsPlan s.gts.now s.plan
   pub index : IsWayIndex s.gts.now s.index

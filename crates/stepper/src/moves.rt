@@ -12,7 +12,7 @@ ghost use Rattle.way_flags.specs.Index.{IsWayIndex};
 ghost use Rattle.stepper.specs.Changes.{before, point_at};
 ghost use Rattle.gts_core.specs.View.{net_of, IsWayAt};
 ghost use Rattle.gts_core.specs.Readings.{IsTotal};
-ghost use Rattle.way_flags.specs.Ready.{IsReady};
+ghost use Rattle.way_flags.specs.Ready.{IsReadyWay};
 ghost use Rattle.way_flags.specs.Ways.{AreFlags};
 ghost use Rattle.stepper.specs.Steps.{IsStepFault};
 
@@ -40,7 +40,7 @@ pub(crate) fn next_values(
     requires inside { way.n < length gts.now.ways.items }
     ensures new { IfOk result (λ new. AreNewValues gts.now new.items) }
     ensures ready { IfOk result (λ new. (w : Way ℕ) → IsWayAt gts.now way.n w
-        → IsReady (net_of gts.now) values.now w (written values.now new.items)) }
+        → IsReadyWay (net_of gts.now) values.now w (written values.now new.items)) }
     ensures fault { IfErr result (λ f. (w : Way ℕ) → IsWayAt gts.now way.n w
         → IsStepFault (net_of gts.now) values.now w f) }
 {

@@ -58,11 +58,11 @@ impl<'a> Model for Stepper<'a> {
 
     ghost coded = { Prim.hlevel (codes, parts_row.coded) };
 
-    ghost use Rattle.stepper.specs.Keeping.{standing_of, IsKept};
+    ghost use Rattle.stepper.specs.Keeping.{standing_of, IsSoundStepper};
 
     ghost view = { standing_of };
 
-    ghost invariant = { IsKept };
+    ghost invariant = { IsSoundStepper };
 }
 
 impl<'a> Stepper<'a> {

@@ -12,7 +12,7 @@ use Rattle.gts_core.specs.Bound.{declared_from, declared_of, event_part_of, memb
 use Rattle.gts_core.specs.declared.bound.DeclaredEvent.{DeclaredEvent}
 use Rattle.gts_core.specs.declared.bound.DeclaredWay.{DeclaredWay}
 use Rattle.sync_expand.specs.Counts.{choice_count, member_count, way_count}
-use Rattle.sync_expand.specs.Planning.{Adds, HasRoom}
+use Rattle.sync_expand.specs.Planning.{AddsPlannedWays, HasRoomForWays}
 use Rattle.sync_expand.specs.Plans.{PlannedWay, bodies_by, choices_by, numbered_from, planned_ways, ways_of_event}
 use Rattle.sync_expand.specs.Planned.{planned_of}
 use Rattle.sync_expand.specs.declared.plans.WayPlan.{WayPlan}
@@ -40,7 +40,7 @@ numbered_length e k [] = refl
 numbered_length e k (b ∷ bs) = ap suc (numbered_length e (k + 1) bs)
 
 -- the plan is that much longer
-pub adds_length : (e first : ℕ) (bs : List (Body ℕ)) (old new : List WayPlan) → Adds e first bs old new
+pub adds_length : (e first : ℕ) (bs : List (Body ℕ)) (old new : List WayPlan) → AddsPlannedWays e first bs old new
     → length new ≡ length old + length bs
 adds_length e first bs old new a =
     let i = ap length a.is in
@@ -50,11 +50,11 @@ adds_length e first bs old new a =
     let n = numbered_length e (length old - first + 1) bs in
     omega (arith, i, m, o, j, n)
 
-pub adds_none : (e first : ℕ) (old : List WayPlan) → Adds e first [] old old
+pub adds_none : (e first : ℕ) (old : List WayPlan) → AddsPlannedWays e first [] old old
 adds_none e first old = record { is = sym (append-nil (map planned_of old)) }
 
 pub adds_join : (e first : ℕ) (bs cs : List (Body ℕ)) (old mid new : List WayPlan) → first ≤ length old
-    → Adds e first bs old mid → Adds e first cs mid new → Adds e first (bs ++ cs) old new
+    → AddsPlannedWays e first bs old mid → AddsPlannedWays e first cs mid new → AddsPlannedWays e first (bs ++ cs) old new
 adds_join e first bs cs old mid new l a b = record {
   is =
       let n = adds_length e first bs old mid a in
@@ -69,10 +69,10 @@ adds_join e first bs cs old mid new l a b = record {
 
 -- one choice more
 pub adds_choice : (e first i : ℕ) (cs : List (List (Bool × ℕ))) (c : List (Bool × ℕ)) (old mid new : List WayPlan)
-    → first ≤ length old → Stands cs i c → Adds e first (map Joins (take i cs)) old mid
-    → Adds e first (Joins c ∷ []) mid new → Adds e first (map Joins (take (i + 1) cs)) old new
+    → first ≤ length old → Stands cs i c → AddsPlannedWays e first (map Joins (take i cs)) old mid
+    → AddsPlannedWays e first (Joins c ∷ []) mid new → AddsPlannedWays e first (map Joins (take (i + 1) cs)) old new
 adds_choice e first i cs c old mid new l s a b =
-    subst (λ (bs : List (Body ℕ)). Adds e first bs old new)
+    subst (λ (bs : List (Body ℕ)). AddsPlannedWays e first bs old new)
     (sym (ap (map Joins) (take_next cs i c s) ∙ map_join Joins (take i cs) (c ∷ [])))
     (adds_join e first (map Joins (take i cs)) (Joins c ∷ []) old mid new l a b)
 
@@ -104,7 +104,7 @@ planned_next counts ds i d s =
 pub plan_next : (counts : List ℕ) (events : List DeclaredEvent) (i : ℕ) (d : DeclaredEvent) (e : ℕ)
     (old new : List WayPlan) → Stands events i d → e ≡ i
     → map planned_of old ≡ planned_ways counts (take i (declared_from 0 events))
-    → Adds e (length old) (bodies_by (λ (k : ℕ) (l : Transition ℕ). k) counts 0 (map member_of d.ways.items)) old new
+    → AddsPlannedWays e (length old) (bodies_by (λ (k : ℕ) (l : Transition ℕ). k) counts 0 (map member_of d.ways.items)) old new
     → map planned_of new ≡ planned_ways counts (take (i + 1) (declared_from 0 events))
 plan_next counts events i d e old new s f h a =
     let one : length old - length old + 1 ≡ 1 = omega arith in
@@ -121,7 +121,7 @@ plan_next counts events i d e old new s f h a =
 pub record EventSoFar (counts : List ℕ) (ways : List DeclaredWay) (e first i : ℕ) (old new : List WayPlan) : Type
     0 where
   pub bodies : List (Body ℕ)
-  pub adds : Adds e first bodies old new
+  pub adds : AddsPlannedWays e first bodies old new
   pub all : bodies ++ bodies_by (λ (k : ℕ) (l : Transition ℕ). k) counts i (map member_of (drop i ways))
       ≡ bodies_by (λ (k : ℕ) (l : Transition ℕ). k) counts 0 (map member_of ways)
 
@@ -131,7 +131,7 @@ event_start counts ways e first old = record { bodies = []; adds = adds_none e f
 
 pub event_next : (counts : List ℕ) (ways : List DeclaredWay) (e first i : ℕ) (w : DeclaredWay)
     (old mid new : List WayPlan) → Stands ways i w → first ≤ length old → EventSoFar counts ways e first i old mid
-    → Adds e first (bodies_by (λ (k : ℕ) (l : Transition ℕ). k) counts i (member_of w ∷ [])) mid new
+    → AddsPlannedWays e first (bodies_by (λ (k : ℕ) (l : Transition ℕ). k) counts i (member_of w ∷ [])) mid new
     → EventSoFar counts ways e first (i + 1) old new
 event_next counts ways e first i w old mid new s low so a = record {
   bodies = so.bodies ++ bodies_by (λ (k : ℕ) (l : Transition ℕ). k) counts i (member_of w ∷ []);
@@ -148,13 +148,13 @@ event_next counts ways e first i w old mid new s low so a = record {
 
 pub event_end : (counts : List ℕ) (ways : List DeclaredWay) (e first i : ℕ) (old new : List WayPlan) → length ways ≤ i
     → EventSoFar counts ways e first i old new
-    → Adds e first (bodies_by (λ (k : ℕ) (l : Transition ℕ). k) counts 0 (map member_of ways)) old new
+    → AddsPlannedWays e first (bodies_by (λ (k : ℕ) (l : Transition ℕ). k) counts 0 (map member_of ways)) old new
 event_end counts ways e first i old new l so =
     let d = ap (λ (ws : List DeclaredWay). so.bodies ++ bodies_by (λ (k : ℕ) (l : Transition ℕ). k) counts i
     (map member_of ws)) (drop_end ways i l) in
     let a : so.bodies ≡ bodies_by (λ (k : ℕ) (l : Transition ℕ). k) counts 0 (map member_of ways) =
     sym (append-nil so.bodies) ∙ (sym d ∙ so.all) in
-    subst (λ (bs : List (Body ℕ)). Adds e first bs old new) a so.adds
+    subst (λ (bs : List (Body ℕ)). AddsPlannedWays e first bs old new) a so.adds
 
 -- the plan is as long as before or longer
 pub event_longer : (counts : List ℕ) (ways : List DeclaredWay) (e first i : ℕ) (old new : List WayPlan)
@@ -185,9 +185,9 @@ take_short (suc n) (x ∷ xs) = let h = take_short n xs in omega (arith, h)
 
 -- there is room for one choice more
 pub choices_room : (counts : List ℕ) (parts : List (Bool × EventId)) (e first place : ℕ) (old new : List WayPlan)
-    → HasRoom first (choice_count counts (map event_part_of parts)) old
+    → HasRoomForWays first (choice_count counts (map event_part_of parts)) old
     → place < choice_count counts (map event_part_of parts)
-    → Adds e first (map Joins (take place (choices_by counts (map event_part_of parts)))) old new → HasRoom first 1 new
+    → AddsPlannedWays e first (map Joins (take place (choices_by counts (map event_part_of parts)))) old new → HasRoomForWays first 1 new
 choices_room counts parts e first place old new room l a =
     let chosen = take place (choices_by counts (map event_part_of parts)) in
     let joined : List (Bool × ℕ) → Body ℕ = Joins in
@@ -201,7 +201,7 @@ choices_room counts parts e first place old new room l a =
 -- and for the ways of the next member of an event
 pub event_room : (counts : List ℕ) (ways : List DeclaredWay) (e first i : ℕ) (w : DeclaredWay) (old new : List WayPlan)
     → Stands ways i w → way_count counts (map member_of ways) ≤ 256 → first ≡ length old
-    → EventSoFar counts ways e (length old) i old new → HasRoom first (member_count counts (member_of w)) new
+    → EventSoFar counts ways e (length old) i old new → HasRoomForWays first (member_count counts (member_of w)) new
 event_room counts ways e first i w old new s few f so =
     let n = adds_length e (length old) so.bodies old new so.adds in
     let j = ap length so.all in

@@ -12,10 +12,10 @@ use Rattle.ar_meaning.specs.Systems.{Way}
 use Rattle.gts_core.specs.Bound.{declared_from}
 use Rattle.gts_core.specs.declared.bound.DeclaredEvent.{DeclaredEvent}
 use Rattle.sync_expand.specs.Counts.{AreCounts, all_parts}
-use Rattle.sync_expand.specs.Expanding.{AreExpandable, AreWays, BreaksNumberedWayRule, Expands, have}
+use Rattle.sync_expand.specs.Expanding.{AreExpandable, AreWays, BreaksNumberedWayRule, ExpandsWays, have}
 use Rattle.sync_expand.specs.Counting.{way_rules, greatest, most_ways, way_parts}
 use Rattle.sync_expand.specs.Links.{Falls}
-use Rattle.sync_expand.specs.Planned.{IsPlan}
+use Rattle.sync_expand.specs.Planned.{IsWayPlan}
 use Rattle.sync_expand.specs.declared.plans.WayPlan.{WayPlan}
 use Rattle.sync_expand.proofs.DeclaredLemmas.{declared_key, declared_keyed, declared_length}
 use Rattle.sync_expand.proofs.KnownLemmas.{sum_within}
@@ -75,7 +75,7 @@ sum_small events h sound l =
 module _ (events : List DeclaredEvent) where
   -- the rule is broken
   pub rule_refuses : (t : Option RuleFault) → IsRefusal (Keeps way_rules BreaksNumberedWayRule events) t
-      → IsRefusal (Expands events) t
+      → IsRefusal (ExpandsWays events) t
   rule_refuses (Some r) h = refuses h
   rule_refuses None h = tt
 
@@ -83,7 +83,7 @@ module _ (events : List DeclaredEvent) where
       (are : AreWays (declared_from 0 events) ways) where
     -- an event has too many ways
     pub ways_refuse : (t : Option RuleFault) → IsRefusal (Fits TheWays greatest (map length ways)) t
-        → IsRefusal (Expands events) t
+        → IsRefusal (ExpandsWays events) t
     ways_refuse (Some r) h = passes events (kept keeps) (passes ways (have are) (refuses (same (Err r) refl h)))
       where
         same : (answer : Result (List ℕ) RuleFault) → answer ≡ Err r → Fits TheWays greatest (map length ways) answer
@@ -97,7 +97,7 @@ module _ (events : List DeclaredEvent) where
     pub parts_refuse : most_ways ways ≤ 256 → way_parts ways ≡ all_parts (map length ways) (declared_from 0 events)
         → (t : Option RuleFault)
         → IsRefusal (Fits WayParts (λ c. all_parts c (declared_from 0 events)) (map length ways)) t
-        → IsRefusal (Expands events) t
+        → IsRefusal (ExpandsWays events) t
     parts_refuse m e (Some r) h = passes events (kept keeps)
         (passes ways (have are) (passes ways (fits m) (same (Err r) refl h)))
       where
@@ -110,11 +110,11 @@ module _ (events : List DeclaredEvent) where
     parts_refuse m e None h = tt
 
     -- all is within the limits
-    pub expands : most_ways ways ≤ 256 → way_parts ways ≤ 1000000 → Expands events (Ok ways)
+    pub expands : most_ways ways ≤ 256 → way_parts ways ≤ 1000000 → ExpandsWays events (Ok ways)
     expands m p = passes events (kept keeps) (passes ways (have are) (passes ways (fits m) (fits p)))
 
   -- an error that tells a refusal of the stage
   pub meets_err : (r : Result (Vec WayPlan Global) RuleFault) (d e : RuleFault) → r ≡ Err d → d ≡ e
-      → IsRefusal (Expands events) (rule_told e) → Meets Expands (λ ways plan. IsPlan events ways plan.items) events r
-  meets_err r d e i j h = subst (λ (z : Result (Vec WayPlan Global) RuleFault). Meets Expands
-      (λ ways plan. IsPlan events ways plan.items) events z) (sym (i ∙ ap Err j)) h
+      → IsRefusal (ExpandsWays events) (rule_told e) → Meets ExpandsWays (λ ways plan. IsWayPlan events ways plan.items) events r
+  meets_err r d e i j h = subst (λ (z : Result (Vec WayPlan Global) RuleFault). Meets ExpandsWays
+      (λ ways plan. IsWayPlan events ways plan.items) events z) (sym (i ∙ ap Err j)) h

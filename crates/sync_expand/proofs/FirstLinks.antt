@@ -4,27 +4,27 @@ use Rattle.ar_base.specs.Lists.{Stands}
 use Rattle.ar_base.proofs.Standing.{stands_one, stands_within}
 use Rattle.ar_base.proofs.Comparing.{lt_or_same, earlier_then, earlier_not}
 use Rattle.gts_core.specs.declared.bound.DeclaredEvent.{DeclaredEvent}
-use Rattle.sync_expand.specs.Links.{IsClimbIn, IsFirstLink, nowhere, there, IsEarlierOf, no_first, no_second, first, second, Until}
+use Rattle.sync_expand.specs.Links.{IsClimbIn, IsFirstLink, nowhere, there, IsEarlierLink, no_first, no_second, first, second, UntilLink}
 use Rattle.sync_expand.specs.declared.links.Link.{Link}
 
 -- by equations of what the cases are
-pub of_first : (f g : Option Link) → f ≡ None → IsEarlierOf f g g
-of_first f g e = subst (λ (z : Option Link). IsEarlierOf z g g) (sym e) no_first
+pub of_first : (f g : Option Link) → f ≡ None → IsEarlierLink f g g
+of_first f g e = subst (λ (z : Option Link). IsEarlierLink z g g) (sym e) no_first
 
-pub of_second : (f g : Option Link) (p : Link) → f ≡ Some p → g ≡ None → IsEarlierOf f g (Some p)
+pub of_second : (f g : Option Link) (p : Link) → f ≡ Some p → g ≡ None → IsEarlierLink f g (Some p)
 of_second f g p e i =
-    subst (λ (z : Option Link). IsEarlierOf z g (Some p)) (sym e)
-    (subst (λ (z : Option Link). IsEarlierOf (Some p) z (Some p)) (sym i) no_second)
+    subst (λ (z : Option Link). IsEarlierLink z g (Some p)) (sym e)
+    (subst (λ (z : Option Link). IsEarlierLink (Some p) z (Some p)) (sym i) no_second)
 
-pub of_both : (f g r : Option Link) (p q : Link) → f ≡ Some p → g ≡ Some q → IsEarlierOf (Some p) (Some q) r
-    → IsEarlierOf f g r
+pub of_both : (f g r : Option Link) (p q : Link) → f ≡ Some p → g ≡ Some q → IsEarlierLink (Some p) (Some q) r
+    → IsEarlierLink f g r
 of_both f g r p q e i h =
-    subst (λ (z : Option Link). IsEarlierOf z g r) (sym e)
-    (subst (λ (z : Option Link). IsEarlierOf (Some p) z r) (sym i) h)
+    subst (λ (z : Option Link). IsEarlierLink z g r) (sym e)
+    (subst (λ (z : Option Link). IsEarlierLink (Some p) z r) (sym i) h)
 
 module _ {P Q : Link → Type 0} where
   -- the first link of either of two properties
-  pub first_both : (f g r : Option Link) → IsFirstLink P f → IsFirstLink Q g → IsEarlierOf f g r
+  pub first_both : (f g r : Option Link) → IsFirstLink P f → IsFirstLink Q g → IsEarlierLink f g r
       → IsFirstLink (λ p. P p ⊎ Q p) r
   first_both f g r (nowhere h) (nowhere k) no_first = nowhere (λ p b. elim b [ inl a ↦ h p a | inr a ↦ k p a ])
   first_both f g r (nowhere h) (there a k) no_first =
@@ -44,21 +44,21 @@ module _ {P Q : Link → Type 0} where
 
 module _ {P : ℕ → Link → Type 0} where
   -- the first link so far, and with one number more
-  pub first_start : IsFirstLink (Until P 0) None
+  pub first_start : IsFirstLink (UntilLink P 0) None
   first_start = nowhere (λ p u. omega (arith, u.below))
 
-  pub first_next : (n : ℕ) (f g r : Option Link) → IsFirstLink (Until P n) f → IsFirstLink (P n) g → IsEarlierOf f g r
-      → IsFirstLink (Until P (n + 1)) r
+  pub first_next : (n : ℕ) (f g r : Option Link) → IsFirstLink (UntilLink P n) f → IsFirstLink (P n) g → IsEarlierLink f g r
+      → IsFirstLink (UntilLink P (n + 1)) r
   first_next n f g r h k e = first_same r to from (first_both f g r h k e)
     where
-      to : (p : Link) → Until P n p ⊎ P n p → Until P (n + 1) p
+      to : (p : Link) → UntilLink P n p ⊎ P n p → UntilLink P (n + 1) p
       to p (inl u) = record { k = u.k; below = omega (arith, u.below); holds = u.holds }
       to p (inr u) = record { k = n; below = omega arith; holds = u }
 
       last : (k : ℕ) → k < n + 1 → (k < n) ⊎ (k ≡ n)
       last k l = lt_or_same k n (omega (arith, l))
 
-      from : (p : Link) → Until P (n + 1) p → Until P n p ⊎ P n p
+      from : (p : Link) → UntilLink P (n + 1) p → UntilLink P n p ⊎ P n p
       from p u = elim (last u.k u.below) [
         | inl l ↦ inl (record { k = u.k; below = l; holds = u.holds })
         | inr e ↦ inr (subst (λ (m : ℕ). P m p) e u.holds)
@@ -71,12 +71,12 @@ pub record AtItem {A : Type 0} (xs : List A) (P : ℕ → A → Link → Type 0)
   pub has : P k item p
 
 module _ {A : Type 0} (xs : List A) (P : ℕ → A → Link → Type 0) where
-  pub loop_start : IsFirstLink (Until (AtItem xs P) 0) None
+  pub loop_start : IsFirstLink (UntilLink (AtItem xs P) 0) None
   loop_start = first_start
 
-  pub loop_next : (i : ℕ) (a : A) (f g r : Option Link) → Stands xs i a → IsFirstLink (Until (AtItem xs P) i) f
-      → IsFirstLink (P i a) g → IsEarlierOf f g r
-      → IsFirstLink (Until (AtItem xs P) (i + 1)) r
+  pub loop_next : (i : ℕ) (a : A) (f g r : Option Link) → Stands xs i a → IsFirstLink (UntilLink (AtItem xs P) i) f
+      → IsFirstLink (P i a) g → IsEarlierLink f g r
+      → IsFirstLink (UntilLink (AtItem xs P) (i + 1)) r
   loop_next i a f g r s h k e = first_next i f g r h (first_same g to from k) e
     where
       to : (p : Link) → P i a p → AtItem xs P i p
@@ -87,10 +87,10 @@ module _ {A : Type 0} (xs : List A) (P : ℕ → A → Link → Type 0) where
 
   pub loop_end : (Q : Link → Type 0) (i : ℕ) (f : Option Link) → length xs ≤ i
       → ((k : ℕ) (a : A) (p : Link) → Stands xs k a → P k a p → Q p)
-      → ((p : Link) → Q p → (k : ℕ) × AtItem xs P k p) → IsFirstLink (Until (AtItem xs P) i) f → IsFirstLink Q f
+      → ((p : Link) → Q p → (k : ℕ) × AtItem xs P k p) → IsFirstLink (UntilLink (AtItem xs P) i) f → IsFirstLink Q f
   loop_end Q i f l to from h = first_same f (λ p u. to u.k u.holds.item p u.holds.stands u.holds.has) back h
     where
-      back : (p : Link) → Q p → Until (AtItem xs P) i p
+      back : (p : Link) → Q p → UntilLink (AtItem xs P) i p
       back p q = let w = from p q in let b = stands_within xs w.0 w.1.item w.1.stands in record { k = w.0; below = omega arith; holds = w.1 }
 
 -- a link that climbs is one of the event of this number

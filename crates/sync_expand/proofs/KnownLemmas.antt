@@ -9,7 +9,7 @@ use Rattle.ar_meaning.specs.Expand.{EventDeclaration}
 use Rattle.gts_core.specs.Bound.{declared_from, declared_of, member_of}
 use Rattle.gts_core.specs.declared.bound.DeclaredEvent.{DeclaredEvent}
 use Rattle.sync_expand.specs.Counts.{AreCounts, AreFew, way_count}
-use Rattle.sync_expand.specs.Tallies.{CountsOne, IsCounted}
+use Rattle.sync_expand.specs.Tallies.{CountsOne, IsTallied}
 use Rattle.sync_expand.specs.Counting.{greatest}
 use Rattle.sync_expand.specs.Plans.{first_of}
 use Rattle.sync_expand.proofs.Capping.{read_number}
@@ -100,14 +100,14 @@ count_small counts events found n d count s are within e l = record { here = her
     same = read_number counts n (way_count counts (map member_of d.ways.items))
         (are.each n (declared_of (0 + n) d) (declared_stands 0 events n d s))
 
-    here : IsCounted counts (set found n count) n
+    here : IsTallied counts (set found n count) n
     here = record {
       right = let g = get_or-set_same found n count 0 within in omega (arith, g, same, e, l);
       small = omega (arith, same, e, l);
     }
 
-    kept : (k : ℕ) → IsCounted counts found k → IsCounted counts (set found n count) k
+    kept : (k : ℕ) → IsTallied counts found k → IsTallied counts (set found n count) k
     kept k h = elim (cases_eq k n) [
-      | inl i ↦ subst (λ (m : ℕ). IsCounted counts (set found n count) m) (sym i) here
+      | inl i ↦ subst (λ (m : ℕ). IsTallied counts (set found n count) m) (sym i) here
       | inr i ↦ record { right = get_or-set_other found n k count 0 i ∙ h.right; small = h.small }
     ]

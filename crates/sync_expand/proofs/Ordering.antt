@@ -11,7 +11,7 @@ use Rattle.gts_core.specs.declared.bound.DeclaredEvent.{DeclaredEvent}
 use Rattle.gts_core.specs.declared.bound.DeclaredWay.{DeclaredWay}
 use Rattle.gts_core.specs.declared.bound.DeclaredWay.TheVariants.{Local, Sync}
 use Rattle.sync_expand.specs.Counts.{choice_count, member_count, way_count}
-use Rattle.sync_expand.specs.Tallies.{AreFirstCounted, ArePartsCounted, CountsOne, IsByRank, IsCounted}
+use Rattle.sync_expand.specs.Tallies.{AreFirstCounted, ArePartsCounted, CountsOne, IsByRank, IsTallied}
 use Rattle.sync_expand.specs.Expanding.{AreExpandable}
 use Rattle.sync_expand.specs.Counting.{greatest}
 use Rattle.sync_expand.specs.Links.{Falls}
@@ -114,7 +114,7 @@ module _ (events : List DeclaredEvent) (ranks order : List ℕ) (by : IsByRank (
   counted_next counts found new i e s one h = record {
     done = λ j x l t. elim (cases_lt j i) [
       | inl b ↦ one.kept x (h.done j x b t)
-      | inr b ↦ (let same : j ≡ i = omega (arith, b, l) in let u = subst (λ (k : ℕ). Stands order k x) same t in subst (λ (n : ℕ). IsCounted counts new n) (stands_one order i e x s u) one.here)
+      | inr b ↦ (let same : j ≡ i = omega (arith, b, l) in let u = subst (λ (k : ℕ). Stands order k x) same t in subst (λ (n : ℕ). IsTallied counts new n) (stands_one order i e x s u) one.here)
     ];
   }
 
@@ -130,7 +130,7 @@ module _ (events : List DeclaredEvent) (ranks order : List ℕ) (by : IsByRank (
         omega (arith, r, b)),
   )
     where
-      each : (k : ℕ) → k < length events → IsCounted counts found k
+      each : (k : ℕ) → k < length events → IsTallied counts found k
       each k l =
           let one = by.all k l in
           let w = stands_within order one.place k one.stands in

@@ -4,7 +4,7 @@ use Rattle.ar_meaning.specs.Expand.{EventDeclaration, HasPart, ReachesPart, part
 use Rattle.gts_core.specs.Bound.{declared_from}
 use Rattle.gts_core.specs.declared.bound.DeclaredEvent.{DeclaredEvent}
 use Rattle.sync_expand.specs.Links.{Falls}
-use Rattle.sync_expand.specs.Reached.{IsReached}
+use Rattle.sync_expand.specs.Reached.{IsEventReached}
 
 -- one step further
 pub reaches_on : {L E : Type 0} {ds : List (EventDeclaration L E)} {a b c : E} → ReachesPart ds a b → HasPart ds b c
@@ -13,7 +13,7 @@ reaches_on (part_of h) k = further h (part_of k)
 reaches_on (further h r) k = further h (reaches_on r k)
 
 module _ (events : List DeclaredEvent) (from : ℕ) where
-  pub reached_on : (b c : ℕ) → IsReached events from b → HasPart (declared_from 0 events) b c → IsReached events from c
+  pub reached_on : (b c : ℕ) → IsEventReached events from b → HasPart (declared_from 0 events) b c → IsEventReached events from c
   reached_on b c (inl e) k = inr (part_of (subst (λ (n : ℕ). HasPart (declared_from 0 events) n c) (sym e) k))
   reached_on b c (inr r) k = inr (reaches_on r k)
 

@@ -14,7 +14,7 @@ use Rattle.gts_core.specs.declared.bound.DeclaredWay.TheVariants.{Sync}
 use Rattle.sync_expand.specs.Expanding.{AreExpandable, BreaksNumberedSynchronisation, BreaksNumberedWayRule, l14}
 use Rattle.sync_expand.specs.Counting.{way_rules}
 use Rattle.sync_expand.specs.Links.{Climbs, IsClimb, IsFirstLink, nowhere, there, Falls}
-use Rattle.sync_expand.specs.Reached.{IsReached}
+use Rattle.sync_expand.specs.Reached.{IsEventReached}
 use Rattle.sync_expand.specs.declared.links.Link.{Link}
 use Rattle.sync_expand.proofs.DeclaredLemmas.{NamesPart, named_part, part_named, declared_stands, declared_back, declared_key}
 use Rattle.sync_expand.proofs.Reaching.{never_rises, always_falls}
@@ -104,7 +104,7 @@ module _ (events : List DeclaredEvent) (ranks : List ℕ) where
   ]
 
   -- a link by whose part the event is reached breaks the rule
-  pub breach_of : (l : Link) → IsClimb events ranks 0 l → IsReached events l.part.n l.event.n
+  pub breach_of : (l : Link) → IsClimb events ranks 0 l → IsEventReached events l.part.n l.event.n
       → BreaksNumberedSynchronisation events l.at
   breach_of l h r = record {
     event = l.event.n;
@@ -135,7 +135,7 @@ module _ (events : List DeclaredEvent) (ranks : List ℕ) where
 
   -- a breach is a synchronisation with a part from which the event is reached
   pub named_breach : (q : Place) (b : BreaksNumberedSynchronisation events q)
-      → (p : ℕ) × (h : NamesPart events b.event p) × (h.at ≡ q) × IsReached events p b.event
+      → (p : ℕ) × (h : NamesPart events b.event p) × (h.at ≡ q) × IsEventReached events p b.event
   named_breach q b =
       let k = b.back in
       let d = declared_back 0 events k.place k.declared k.stands in
@@ -182,10 +182,10 @@ module _ (events : List DeclaredEvent) (ranks : List ℕ) where
   -- the first link that climbs, where ranks never rise and its event is reached from its part
   pub broken_of : (f : Option Link) (l : Link) → f ≡ Some l → IsFirstLink (IsClimb events ranks 0) f
       → ((e p : ℕ) → HasPart (declared_from 0 events) e p → slice_index ranks p ≤ slice_index ranks e)
-      → IsReached events l.part.n l.event.n → IsBroken way_rules (BreaksNumberedWayRule events) 14 l.at
+      → IsEventReached events l.part.n l.event.n → IsBroken way_rules (BreaksNumberedWayRule events) 14 l.at
   broken_of f l e h level r = by (subst (λ (z : Option Link). IsFirstLink (IsClimb events ranks 0) z) e h)
     where
-      reach : (a b : ℕ) → IsReached events a b → slice_index ranks b ≤ slice_index ranks a
+      reach : (a b : ℕ) → IsEventReached events a b → slice_index ranks b ≤ slice_index ranks a
       reach a b (inl e) = let s = ap (slice_index ranks) e in omega arith
       reach a b (inr k) = never_rises events ranks level a b k
 
@@ -220,12 +220,12 @@ module _ (events : List DeclaredEvent) (ranks : List ℕ) where
 
 -- where the rule is kept, no event is reached from itself
 pub never_back : (events : List DeclaredEvent) → AreKept way_rules (BreaksNumberedWayRule events) → (e p : ℕ)
-    → HasPart (declared_from 0 events) e p → IsReached events p e → ⊥
+    → HasPart (declared_from 0 events) e p → IsEventReached events p e → ⊥
 never_back events keeps e p h r =
     let k = link_of events [] e p 0 (named_part events e p h) (let l : 0 ≤ 0 = omega arith in l) in
-    let back : IsReached events k.0.part.n k.0.event.n =
-    subst (λ (n : ℕ). IsReached events k.0.part.n n) (sym k.3)
-    (subst (λ (n : ℕ). IsReached events n e) (sym k.4) r) in
+    let back : IsEventReached events k.0.part.n k.0.event.n =
+    subst (λ (n : ℕ). IsEventReached events k.0.part.n n) (sym k.3)
+    (subst (λ (n : ℕ). IsEventReached events n e) (sym k.4) r) in
     keeps.kept 14 k.0.at (record { place = 0; stands = refl }) (l14 (breach_of events [] k.0 k.1 back))
 
 pub never_itself : (events : List DeclaredEvent) → AreKept way_rules (BreaksNumberedWayRule events) → (e : ℕ)

@@ -12,8 +12,8 @@ use Rattle.gts_core.specs.declared.bound.DeclaredEvent.{DeclaredEvent}
 use Rattle.gts_core.specs.declared.bound.DeclaredWay.{DeclaredWay}
 use Rattle.gts_core.specs.declared.bound.DeclaredWay.TheVariants.{Sync}
 use Rattle.sync_expand.specs.Expanding.{AreExpandable}
-use Rattle.sync_expand.specs.Links.{IsPartOf}
-use Rattle.sync_expand.specs.Reached.{IsReached, AreReachedFrom, marked, IsReachCount, AreReachCounts, IsNew, Opens, IsAmong}
+use Rattle.sync_expand.specs.Links.{IsPartOfWays}
+use Rattle.sync_expand.specs.Reached.{IsEventReached, AreReachedFrom, marked, IsReachCount, AreReachCounts, IsFirstMet, OpensEvents, IsAmong}
 use Rattle.sync_expand.specs.declared.reach.Walk.{Walk}
 use Rattle.sync_expand.proofs.DeclaredLemmas.{NamesPart, named_part, part_named, declared_back}
 use Rattle.sync_expand.proofs.Capping.{read_number}
@@ -94,7 +94,7 @@ set_more (false ∷ ms) (suc i) s = set_more ms i s
 
 -- an event that is marked
 pub opens_old : (event : EventId) (old new : Walk) → new.marks.items ≡ old.marks.items
-    → new.ahead.items ≡ old.ahead.items → Stands old.marks.items event.n true → Opens (λ (x : EventId). x ≡ event) old new
+    → new.ahead.items ≡ old.ahead.items → Stands old.marks.items event.n true → OpensEvents (λ (x : EventId). x ≡ event) old new
 opens_old event old new e f s = record {
   long = ap length e;
   kept = λ n t. subst (λ (z : List Bool). Stands z n true) (sym e) t;
@@ -109,7 +109,7 @@ opens_old event old new e f s = record {
 -- an event that is not
 pub opens_new : (event : EventId) (old new : Walk) → new.marks.items ≡ set old.marks.items event.n true
     → new.ahead.items ≡ old.ahead.items ++ event ∷ [] → Stands old.marks.items event.n false
-    → Opens (λ (x : EventId). x ≡ event) old new
+    → OpensEvents (λ (x : EventId). x ≡ event) old new
 opens_new event old new e f s = record {
   long = ap length e ∙ set_long old.marks.items event.n;
   kept = λ n t. subst (λ (z : List Bool). Stands z n true) (sym e) (set_kept old.marks.items event.n n t);
@@ -143,7 +143,7 @@ opens_new event old new e f s = record {
         (one_right old.ahead.items (event ∷ []) event (one_first event []))
 
 -- nothing
-pub opens_none : (P : EventId → Type 0) (walk : Walk) → ((x : EventId) → P x → ⊥) → Opens P walk walk
+pub opens_none : (P : EventId → Type 0) (walk : Walk) → ((x : EventId) → P x → ⊥) → OpensEvents P walk walk
 opens_none P walk none = record {
   long = refl;
   kept = λ n t. t;
@@ -155,9 +155,9 @@ opens_none P walk none = record {
 }
 
 -- some, and then others
-pub opens_both : (P Q R : EventId → Type 0) (old mid new : Walk) → Opens P old mid → Opens Q mid new
+pub opens_both : (P Q R : EventId → Type 0) (old mid new : Walk) → OpensEvents P old mid → OpensEvents Q mid new
     → ((x : EventId) → R x → P x ⊎ Q x) → ((x : EventId) → P x → R x) → ((x : EventId) → Q x → R x)
-    → Opens R old new
+    → OpensEvents R old new
 opens_both P Q R old mid new a b split p q = record {
   long = b.long ∙ a.long;
   kept = λ n t. b.kept n (a.kept n t);
@@ -179,8 +179,8 @@ opens_both P Q R old mid new a b split p q = record {
 }
 
 -- the same events by other words
-pub opens_as : (P Q : EventId → Type 0) (old new : Walk) → Opens P old new → ((x : EventId) → P x → Q x)
-    → ((x : EventId) → Q x → P x) → Opens Q old new
+pub opens_as : (P Q : EventId → Type 0) (old new : Walk) → OpensEvents P old new → ((x : EventId) → P x → Q x)
+    → ((x : EventId) → Q x → P x) → OpensEvents Q old new
 opens_as P Q old new a to from =
     opens_both P (λ (x : EventId). ⊥) Q old new new a (opens_none (λ (x : EventId). ⊥) new (λ x h. h))
     (λ x h. inl (from x h)) to (λ x h. absurd h)
@@ -194,13 +194,13 @@ pub record IsBefore (parts : List (Bool × EventId)) (i : ℕ) (x : EventId) : T
   pub must : Bool
   pub stands : Stands parts place (must, x)
 
-pub parts_start : (parts : List (Bool × EventId)) (walk : Walk) → Opens (IsBefore parts 0) walk walk
+pub parts_start : (parts : List (Bool × EventId)) (walk : Walk) → OpensEvents (IsBefore parts 0) walk walk
 parts_start parts walk =
     opens_none (IsBefore parts 0) walk (λ x h. let l = h.below in omega (arith, l))
 
 pub parts_next : (parts : List (Bool × EventId)) (i : ℕ) (p : Bool × EventId) (old mid new : Walk) → Stands parts i p
-    → Opens (IsBefore parts i) old mid → Opens (λ (x : EventId). x ≡ p.1) mid new
-    → Opens (IsBefore parts (i + 1)) old new
+    → OpensEvents (IsBefore parts i) old mid → OpensEvents (λ (x : EventId). x ≡ p.1) mid new
+    → OpensEvents (IsBefore parts (i + 1)) old new
 parts_next parts i p old mid new s a b =
     opens_both (IsBefore parts i) (λ (x : EventId). x ≡ p.1) (IsBefore parts (i + 1)) old mid new a b
     (λ x h. split x h.place h.below h.must h.stands)
@@ -224,7 +224,7 @@ parts_next parts i p old mid new s a b =
     ]
 
 pub parts_end : (parts : List (Bool × EventId)) (i : ℕ) (old new : Walk) → length parts ≤ i
-    → Opens (IsBefore parts i) old new → Opens (IsAmong parts) old new
+    → OpensEvents (IsBefore parts i) old new → OpensEvents (IsAmong parts) old new
 parts_end parts i old new l a =
     opens_as (IsBefore parts i) (IsAmong parts) old new a
     (λ x h. record { must = h.must; is_part = one_here parts h.place (h.must, x) h.stands })
@@ -243,7 +243,7 @@ pub record IsPartBefore (ways : List DeclaredWay) (i : ℕ) (x : EventId) : Type
   pub must : Bool
   pub is_part : IsOneOf parts.items (must, x)
 
-pub ways_start : (ways : List DeclaredWay) (walk : Walk) → Opens (IsPartBefore ways 0) walk walk
+pub ways_start : (ways : List DeclaredWay) (walk : Walk) → OpensEvents (IsPartBefore ways 0) walk walk
 ways_start ways walk = opens_none (IsPartBefore ways 0) walk (λ x h. let l = h.below in omega (arith, l))
 
 before_on : (ways : List DeclaredWay) (i : ℕ) (x : EventId) → IsPartBefore ways i x → IsPartBefore ways (i + 1) x
@@ -281,8 +281,8 @@ before_split ways i w x s h = elim (cases_lt h.place i) [
 ]
 
 pub ways_next : (ways : List DeclaredWay) (i : ℕ) (w : DeclaredWay) (parts : Vec (Bool × EventId) Global) (at : Place)
-    (old mid new : Walk) → Stands ways i w → w ≡ Sync parts at → Opens (IsPartBefore ways i) old mid
-    → Opens (IsAmong parts.items) mid new → Opens (IsPartBefore ways (i + 1)) old new
+    (old mid new : Walk) → Stands ways i w → w ≡ Sync parts at → OpensEvents (IsPartBefore ways i) old mid
+    → OpensEvents (IsAmong parts.items) mid new → OpensEvents (IsPartBefore ways (i + 1)) old new
 ways_next ways i w parts at old mid new s e a b =
     opens_both (IsPartBefore ways i) (IsAmong parts.items) (IsPartBefore ways (i + 1)) old mid new a b
     (λ x h. elim (before_split ways i w x s h) [
@@ -306,7 +306,7 @@ ways_next ways i w parts at old mid new s e a b =
 
 -- a part of the way that stands here is one of the ways
 pub part_here : (ways : List DeclaredWay) (i : ℕ) (w : DeclaredWay) (parts : Vec (Bool × EventId) Global) (at : Place)
-    (x : EventId) → Stands ways i w → w ≡ Sync parts at → IsAmong parts.items x → IsPartOf ways x
+    (x : EventId) → Stands ways i w → w ≡ Sync parts at → IsAmong parts.items x → IsPartOfWays ways x
 part_here ways i w parts at x s e h = record {
   parts = parts;
   at = at;
@@ -318,15 +318,15 @@ part_here ways i w parts at x s e h = record {
 -- a transition has no parts
 pub ways_skip : (ways : List DeclaredWay) (i : ℕ) (w : DeclaredWay) (old new : Walk) → Stands ways i w
     → ((parts : Vec (Bool × EventId) Global) (at : Place) → w ≡ Sync parts at → ⊥)
-    → Opens (IsPartBefore ways i) old new → Opens (IsPartBefore ways (i + 1)) old new
+    → OpensEvents (IsPartBefore ways i) old new → OpensEvents (IsPartBefore ways (i + 1)) old new
 ways_skip ways i w old new s none a =
     opens_as (IsPartBefore ways i) (IsPartBefore ways (i + 1)) old new a (λ x h. before_on ways i x h)
     (λ x h. elim (before_split ways i w x s h) [ inl j ↦ j | inr j ↦ absurd (none j.0 j.1 j.2) ])
 
 pub ways_end : (ways : List DeclaredWay) (i : ℕ) (old new : Walk) → length ways ≤ i
-    → Opens (IsPartBefore ways i) old new → Opens (IsPartOf ways) old new
+    → OpensEvents (IsPartBefore ways i) old new → OpensEvents (IsPartOfWays ways) old new
 ways_end ways i old new l a =
-    opens_as (IsPartBefore ways i) (IsPartOf ways) old new a
+    opens_as (IsPartBefore ways i) (IsPartOfWays ways) old new a
     (λ x h. record {
       parts = h.parts;
       at = h.at;
@@ -361,7 +361,7 @@ pub record IsClosed (events : List DeclaredEvent) (marks : List Bool) (n : ℕ) 
 pub record IsWalk (events : List DeclaredEvent) (from : ℕ) (walk : Walk) : Type 0 where
   pub long : length walk.marks.items ≡ length events
   pub start : Stands walk.marks.items from true
-  pub only : (n : ℕ) → Stands walk.marks.items n true → IsReached events from n
+  pub only : (n : ℕ) → Stands walk.marks.items n true → IsEventReached events from n
   pub ahead : (x : EventId) → IsOneOf walk.ahead.items x → Stands walk.marks.items x.n true
   pub closed : (n : ℕ) → Stands walk.marks.items n true
       → IsAhead walk.ahead.items n ⊎ IsClosed events walk.marks.items n
@@ -369,7 +369,7 @@ pub record IsWalk (events : List DeclaredEvent) (from : ℕ) (walk : Walk) : Typ
 module _ (events : List DeclaredEvent) (sound : AreExpandable events) (from : ℕ) where
   pub walk_start : (event : EventId) (old new : Walk) → event.n ≡ from → length old.marks.items ≡ length events
       → ((n : ℕ) → Stands old.marks.items n true → ⊥) → old.ahead.items ≡ []
-      → Opens (λ (x : EventId). x ≡ event) old new → IsWalk events from new
+      → OpensEvents (λ (x : EventId). x ≡ event) old new → IsWalk events from new
   walk_start event old new e l none f a = record {
     long = a.long ∙ l;
     start = subst (λ (n : ℕ). Stands new.marks.items n true) e (a.all event refl);
@@ -389,7 +389,7 @@ module _ (events : List DeclaredEvent) (sound : AreExpandable events) (from : �
 
   -- a part of a declared event's ways is one of the event's parts
   pub is_part : (event : EventId) (d : DeclaredEvent) (x : EventId) → Stands events event.n d
-      → IsPartOf d.ways.items x → HasPart (declared_from 0 events) event.n x.n
+      → IsPartOfWays d.ways.items x → HasPart (declared_from 0 events) event.n x.n
   is_part event d x s p = part_named events event.n x.n (record {
     declared = d;
     stands = s;
@@ -402,19 +402,19 @@ module _ (events : List DeclaredEvent) (sound : AreExpandable events) (from : �
   })
 
   pub part_within : (event : EventId) (d : DeclaredEvent) (x : EventId) → Stands events event.n d
-      → IsPartOf d.ways.items x → x.n < length events
+      → IsPartOfWays d.ways.items x → x.n < length events
   part_within event d x s p =
       sound.parts event.n p.is_way.place d p.parts p.at s p.is_way.stands (p.must, x) p.is_part
 
   pub walk_next : (event : EventId) (d : DeclaredEvent) (old mid new : Walk) → Stands events event.n d
       → mid.marks.items ≡ old.marks.items → old.ahead.items ≡ mid.ahead.items ++ event ∷ []
-      → Opens (IsPartOf d.ways.items) mid new → IsWalk events from old → IsWalk events from new
+      → OpensEvents (IsPartOfWays d.ways.items) mid new → IsWalk events from old → IsWalk events from new
   walk_next event d old mid new s e f a w = record {
     long = a.long ∙ (ap length e ∙ w.long);
     start = a.kept from (back from w.start);
     only = λ n t. elim (a.only n t) [
       | inl u ↦ w.only n (subst (λ (z : List Bool). Stands z n true) e u)
-      | inr i ↦ subst (λ (k : ℕ). IsReached events from k) i.number
+      | inr i ↦ subst (λ (k : ℕ). IsEventReached events from k) i.number
           (reached_on events from event.n i.event.n (w.only event.n (w.ahead event last))
           (is_part event d i.event s i.has))
     ];
@@ -492,13 +492,13 @@ module _ (events : List DeclaredEvent) (sound : AreExpandable events) (from : �
       along a b (part_of h) t = (closed a t).parts b h
       along a b (further {e = p} h r) t = along p b r ((closed a t).parts p h)
 
-      all : (n : ℕ) → IsReached events from n → Stands walk.marks.items n true
+      all : (n : ℕ) → IsEventReached events from n → Stands walk.marks.items n true
       all n (inl i) = subst (λ (k : ℕ). Stands walk.marks.items k true) i w.start
       all n (inr r) = along from n r w.start
 
 -- each turn leaves one less to be looked at
 pub walk_spent : (P : EventId → Type 0) (old mid new : Walk) (event : EventId) → mid.marks.items ≡ old.marks.items
-    → old.ahead.items ≡ mid.ahead.items ++ event ∷ [] → Opens P mid new
+    → old.ahead.items ≡ mid.ahead.items ++ event ∷ [] → OpensEvents P mid new
     → length new.marks.items - marked new.marks.items + length new.ahead.items
     < length old.marks.items - marked old.marks.items + length old.ahead.items
 walk_spent P old mid new event e f a =
@@ -548,7 +548,7 @@ module _ (events : List DeclaredEvent) (sound : AreExpandable events) (counts : 
             (sound.parts e n.is_way.place n.declared n.parts n.at n.stands n.is_way.stands n.part n.is_part),
       )
 
-  up : (e p n : ℕ) → HasPart (declared_from 0 events) e p → IsReached events p n → IsReached events e n
+  up : (e p n : ℕ) → HasPart (declared_from 0 events) e p → IsEventReached events p n → IsEventReached events e n
   up e p n h (inl i) = inr (part_of (subst (λ (k : ℕ). HasPart (declared_from 0 events) e k) i h))
   up e p n h (inr r) = inr (further h r)
 
@@ -566,7 +566,7 @@ module _ (events : List DeclaredEvent) (sound : AreExpandable events) (counts : 
 
   -- from a part whose count is no less the event is reached
   pub counts_back : (e p : ℕ) → HasPart (declared_from 0 events) e p → slice_index counts e ≤ slice_index counts p
-      → IsReached events p e
+      → IsEventReached events p e
   counts_back e p h l =
       let w = event_within e p h in
       let a = are.each e w.0 in

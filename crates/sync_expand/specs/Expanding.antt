@@ -47,13 +47,13 @@ pub record AreByNumber {L : Type 0} (events : List (EventDeclaration L ℕ)) : T
   pub numbered : (n : ℕ) (d : EventDeclaration L ℕ) → Stands events n d → d.key ≡ n
 
 -- the declared events have these ways
-pub data HaveWays (events : List DeclaredEvent) : Result (List (List (Way ℕ))) RuleFault
+pub data HaveDeclaredWays (events : List DeclaredEvent) : Result (List (List (Way ℕ))) RuleFault
     → Type 0 where
   have : {ways : List (List (Way ℕ))} → AreWays (declared_from 0 events) ways
-      → HaveWays events (Ok ways)
+      → HaveDeclaredWays events (Ok ways)
 
 -- the stage: rule L14, the ways of the events, and the limits of an event's ways and of the parts
 -- of all ways
-abbrev pub Expands : List DeclaredEvent → Result (List (List (Way ℕ))) RuleFault → Type 0
-Expands = Then (Keeps way_rules BreaksNumberedWayRule)
-    (Then HaveWays (Then (Fits TheWays most_ways) (Fits WayParts way_parts)))
+abbrev pub ExpandsWays : List DeclaredEvent → Result (List (List (Way ℕ))) RuleFault → Type 0
+ExpandsWays = Then (Keeps way_rules BreaksNumberedWayRule)
+    (Then HaveDeclaredWays (Then (Fits TheWays most_ways) (Fits WayParts way_parts)))

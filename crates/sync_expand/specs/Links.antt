@@ -53,20 +53,20 @@ pub data IsFirstLink (P : Link → Type 0) : Option Link → Type 0 where
   there : {l : Link} → P l → ((k : Link) → IsEarlier k.at l.at → P k → ⊥) → IsFirstLink P (Some l)
 
 -- the last is the earlier one of the first two, as far as there are any
-pub data IsEarlierOf : Option Link → Option Link → Option Link → Type 0 where
-  no_first : {g : Option Link} → IsEarlierOf None g g
-  no_second : {l : Link} → IsEarlierOf (Some l) None (Some l)
-  first : {l k : Link} → (IsEarlier k.at l.at → ⊥) → IsEarlierOf (Some l) (Some k) (Some l)
-  second : {l k : Link} → IsEarlier k.at l.at → IsEarlierOf (Some l) (Some k) (Some k)
+pub data IsEarlierLink : Option Link → Option Link → Option Link → Type 0 where
+  no_first : {g : Option Link} → IsEarlierLink None g g
+  no_second : {l : Link} → IsEarlierLink (Some l) None (Some l)
+  first : {l k : Link} → (IsEarlier k.at l.at → ⊥) → IsEarlierLink (Some l) (Some k) (Some l)
+  second : {l k : Link} → IsEarlier k.at l.at → IsEarlierLink (Some l) (Some k) (Some k)
 
 -- some number below n has P at the link
-pub record Until (P : ℕ → Link → Type 0) (n : ℕ) (l : Link) : Type 0 where
+pub record UntilLink (P : ℕ → Link → Type 0) (n : ℕ) (l : Link) : Type 0 where
   pub k : ℕ
   pub below : k < n
   pub holds : P k l
 
 -- the event is a part of one of the ways
-pub record IsPartOf (ways : List DeclaredWay) (x : EventId) : Type 0 where
+pub record IsPartOfWays (ways : List DeclaredWay) (x : EventId) : Type 0 where
   pub parts : Vec (Bool × EventId) Global
   pub at : Place
   pub is_way : IsOneOf ways (Sync parts at)

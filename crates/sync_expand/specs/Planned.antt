@@ -34,6 +34,6 @@ planned_of w = record { event = w.event.n; number = w.number; body = planned_bod
 
 -- the plan has the ways of the declared events, which have these ways: event by event, each event's
 -- ways numbered from 1, and a way's number among all ways is its place in the plan
-pub record IsPlan (events : List DeclaredEvent) (ways : List (List (Way ℕ)))
+pub record IsWayPlan (events : List DeclaredEvent) (ways : List (List (Way ℕ)))
     (plan : List WayPlan) : Type 0 where
   pub is : map planned_of plan ≡ planned_ways (map length ways) (declared_from 0 events)

@@ -9,7 +9,7 @@ use Rattle.sync_expand.specs.declared.plans.WayPlan.{WayPlan}
 
 -- the new plan has ways of the event with these bodies behind those of the old one; the event's
 -- first way has the place `first`
-pub record Adds (event first : ℕ) (bodies : List (Body ℕ)) (old new : List WayPlan) : Type 0 where
+pub record AddsPlannedWays (event first : ℕ) (bodies : List (Body ℕ)) (old new : List WayPlan) : Type 0 where
   pub is : map planned_of new ≡ map planned_of old
       ++ numbered_from event (length old - first + 1) bodies
 
@@ -19,11 +19,11 @@ pub record IsNumbering (counts firsts : List ℕ) : Type 0 where
   pub small : sum counts < 2 ^ 32
 
 -- the same of what the code keeps
-abbrev pub IsNumbered : Numbering → Type 0
-IsNumbered numbering = IsNumbering numbering.counts.items numbering.firsts.items
+abbrev pub IsNumberingKept : Numbering → Type 0
+IsNumberingKept numbering = IsNumbering numbering.counts.items numbering.firsts.items
 
 -- the plan has so few ways of the event whose first way has the place `first` that with so many more it is within the
 -- limit
-pub record HasRoom (first more : ℕ) (plan : List WayPlan) : Type 0 where
+pub record HasRoomForWays (first more : ℕ) (plan : List WayPlan) : Type 0 where
   pub low : first ≤ length plan
   pub room : length plan - first + more ≤ 256

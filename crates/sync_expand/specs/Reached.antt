@@ -8,14 +8,14 @@ use Rattle.gts_core.specs.declared.bound.DeclaredEvent.{DeclaredEvent}
 use Rattle.sync_expand.specs.declared.reach.Walk.{Walk}
 
 -- the second event is the first or is reached from it
-abbrev pub IsReached : List DeclaredEvent → ℕ → ℕ → Type 0
-IsReached events from to = (from ≡ to) ⊎ ReachesPart (declared_from 0 events) from to
+abbrev pub IsEventReached : List DeclaredEvent → ℕ → ℕ → Type 0
+IsEventReached events from to = (from ≡ to) ⊎ ReachesPart (declared_from 0 events) from to
 
 -- exactly the event itself and the events that are reached from it are marked
 pub record AreReachedFrom (events : List DeclaredEvent) (from : ℕ) (marks : List Bool) : Type 0 where
   pub long : length marks ≡ length events
-  pub only : (n : ℕ) → Stands marks n true → IsReached events from n
-  pub all : (n : ℕ) → IsReached events from n → Stands marks n true
+  pub only : (n : ℕ) → Stands marks n true → IsEventReached events from n
+  pub all : (n : ℕ) → IsEventReached events from n → Stands marks n true
 
 -- how many events are marked
 abbrev pub marked : List Bool → ℕ
@@ -34,18 +34,18 @@ pub record AreReachCounts (events : List DeclaredEvent) (counts : List ℕ) : Ty
   pub each : (n : ℕ) → n < length events → IsReachCount events n (slice_index counts n)
 
 -- an event of this number that has P was met for the first time, and is ahead
-pub record IsNew (P : EventId → Type 0) (ahead : List EventId) (n : ℕ) : Type 0 where
+pub record IsFirstMet (P : EventId → Type 0) (ahead : List EventId) (n : ℕ) : Type 0 where
   pub event : EventId
   pub has : P event
   pub number : event.n ≡ n
   pub is_ahead : IsOneOf ahead event
 
 -- the events that have P are marked besides those of the old marks; those that were not marked before are ahead
-pub record Opens (P : EventId → Type 0) (old new : Walk) : Type 0 where
+pub record OpensEvents (P : EventId → Type 0) (old new : Walk) : Type 0 where
   pub long : length new.marks.items ≡ length old.marks.items
   pub kept : (n : ℕ) → Stands old.marks.items n true → Stands new.marks.items n true
   pub all : (x : EventId) → P x → Stands new.marks.items x.n true
-  pub only : (n : ℕ) → Stands new.marks.items n true → Stands old.marks.items n true ⊎ IsNew P new.ahead.items n
+  pub only : (n : ℕ) → Stands new.marks.items n true → Stands old.marks.items n true ⊎ IsFirstMet P new.ahead.items n
   pub waits : (x : EventId) → IsOneOf old.ahead.items x → IsOneOf new.ahead.items x
   pub ahead : (x : EventId) → IsOneOf new.ahead.items x → IsOneOf old.ahead.items x ⊎ Stands new.marks.items x.n true
   pub spent : marked new.marks.items + length old.ahead.items ≡ marked old.marks.items + length new.ahead.items

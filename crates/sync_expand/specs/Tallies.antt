@@ -15,7 +15,7 @@ pub record IsByRank (count : ℕ) (ranks order : List ℕ) : Type 0 where
   pub rises : IsNonDecreasingBy (λ (n : ℕ). slice_index ranks n) order
 
 -- the number that was found for the event is that of its ways, and within the limit
-pub record IsCounted (counts found : List ℕ) (event : ℕ) : Type 0 where
+pub record IsTallied (counts found : List ℕ) (event : ℕ) : Type 0 where
   pub right : slice_index found event ≡ slice_index counts event
   pub small : slice_index counts event ≤ 256
 
@@ -26,9 +26,9 @@ pub record ArePartsCounted (counts found : List ℕ) (ways : List DeclaredWay) :
 
 -- the event was counted, and others stay counted
 pub record CountsOne (counts : List ℕ) (event : ℕ) (old new : List ℕ) : Type 0 where
-  pub here : IsCounted counts new event
-  pub kept : (e : ℕ) → IsCounted counts old e → IsCounted counts new e
+  pub here : IsTallied counts new event
+  pub kept : (e : ℕ) → IsTallied counts old e → IsTallied counts new e
 
 -- the first events of the order are counted
 pub record AreFirstCounted (counts order : List ℕ) (i : ℕ) (found : List ℕ) : Type 0 where
-  pub done : (j e : ℕ) → j < i → Stands order j e → IsCounted counts found e
+  pub done : (j e : ℕ) → j < i → Stands order j e → IsTallied counts found e

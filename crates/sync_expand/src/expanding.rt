@@ -1,8 +1,8 @@
 //! The call that expands declared events.
 
 ghost use Rattle.ar_base.specs.StagesInside.{Meets};
-ghost use Rattle.sync_expand.specs.Expanding.{AreExpandable, Expands};
-ghost use Rattle.sync_expand.specs.Planned.{IsPlan};
+ghost use Rattle.sync_expand.specs.Expanding.{AreExpandable, ExpandsWays};
+ghost use Rattle.sync_expand.specs.Planned.{IsWayPlan};
 
 use crate::counting::{count_ways, fit_parts};
 use crate::links::falling_ranks;
@@ -21,7 +21,7 @@ use std::alloc::Global;
 /// where the synchronised ways have more than 1,000,000 parts together. Nothing is expanded before.
 pub fn ways(alloc: Global, events: &[DeclaredEvent]) -> Result<Vec<WayPlan>, RuleFault>
     requires { AreExpandable events.now }
-    ensures { Meets Expands (λ ways plan. IsPlan events.now ways plan.items) events.now result }
+    ensures { Meets ExpandsWays (λ ways plan. IsWayPlan events.now ways plan.items) events.now result }
 {
     let ranks = falling_ranks(alloc, events)?;
     let counts = count_ways(alloc, events, &ranks)?;

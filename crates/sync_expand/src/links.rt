@@ -7,7 +7,7 @@ ghost use Rattle.ar_base.specs.declared.numbers.Id.{Id};
 ghost use Rattle.ar_base.specs.declared.numbers.EventKind.{EventKind};
 ghost use Rattle.sync_expand.specs.Expanding.{AreExpandable, BreaksNumberedWayRule};
 ghost use Rattle.sync_expand.specs.Counting.{way_rules};
-ghost use Rattle.sync_expand.specs.Links.{IsClimbAmong, IsClimbOf, IsClimbIn, IsClimb, IsFirstLink, IsEarlierOf, Falls};
+ghost use Rattle.sync_expand.specs.Links.{IsClimbAmong, IsClimbOf, IsClimbIn, IsClimb, IsFirstLink, IsEarlierLink, Falls};
 
 use crate::numbers::number_at;
 use crate::reach::{reach_counts, reached_from};
@@ -54,7 +54,7 @@ pub(crate) fn falling_ranks(alloc: Global, events: &[DeclaredEvent]) -> Result<V
 
 // The earlier of two links, as far as there are any.
 fn earlier(found: Option<Link>, other: Option<Link>) -> Option<Link>
-    ensures { IsEarlierOf found other result }
+    ensures { IsEarlierLink found other result }
 {
     match found {
         None => other,

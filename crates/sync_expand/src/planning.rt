@@ -7,7 +7,7 @@ ghost use Rattle.gts_core.specs.Bound.{declared_from, event_part_of, member_of};
 ghost use Rattle.gts_core.specs.View.{part_of};
 ghost use Rattle.gts_core.specs.declared.bound.DeclaredEvent.{DeclaredEvent};
 ghost use Rattle.sync_expand.specs.Counts.{AreFew, AreFirsts, choice_count as choices_of, member_count, way_count};
-ghost use Rattle.sync_expand.specs.Planning.{Adds, HasRoom, IsNumbered};
+ghost use Rattle.sync_expand.specs.Planning.{AddsPlannedWays, HasRoomForWays, IsNumberingKept};
 ghost use Rattle.sync_expand.specs.Plans.{bodies_by, choices_by, first_of, planned_ways};
 ghost use Rattle.sync_expand.specs.Planned.{planned_body, planned_of};
 
@@ -30,7 +30,7 @@ impl Numbering {
     pub(crate) fn new(alloc: Global, counts: Vec<u32>) -> Result<Numbering, Memory>
         requires { sum counts.items < 2 ^ 32 }
         ensures counts { IfOk result (λ n. n.counts.items ≡ counts.items) }
-        ensures numbered { IfOk result IsNumbered }
+        ensures numbered { IfOk result IsNumberingKept }
     {
         let firsts = firsts_of(alloc, &counts)?;
         Ok(Numbering { counts, firsts })
@@ -38,12 +38,34 @@ impl Numbering {
 
     // The way of an event at this place, from 0.
     fn way(&self, event: EventId, place: u32) -> WayId
-        requires numbered { IsNumbered self.now }
+        requires numbered { IsNumberingKept self.now }
         requires place { place < slice_index self.now.counts.items event.n }
         ensures { result.n ≡ first_of self.now.counts.items event.n + place }
     {
         WayId::new(number_at(&self.firsts, event) + place)
     }
+}
+
+/// The ways of all events, event by event.
+pub(crate) fn plan(
+    alloc: Global,
+    events: &[DeclaredEvent],
+    numbering: &Numbering,
+) -> Result<Vec<WayPlan>, Memory>
+    requires few { length events.now ≤ 16384 }
+    requires short { (n : ℕ) (d : DeclaredEvent) → Stands events.now n d
+        → length d.ways.items < 2 ^ 32 }
+    requires numbered { IsNumberingKept numbering.now }
+    requires within { AreFew numbering.now.counts.items (declared_from 0 events.now) }
+    ensures { IfOk result (λ plan. map planned_of plan.items
+        ≡ planned_ways numbering.now.counts.items (declared_from 0 events.now)) }
+{
+    let mut plan = Vec::new(alloc);
+    for (place, declared) in events.iter().enumerate() {
+        let event = EventId::new(place as u32);
+        plan_event(alloc, event, &declared.ways, numbering, &mut plan)?;
+    }
+    Ok(plan)
 }
 
 // The number of the first way of each event, where the events have so many ways.
@@ -60,28 +82,6 @@ fn firsts_of(alloc: Global, counts: &[u32]) -> Result<Vec<u32>, Memory>
     Ok(firsts)
 }
 
-/// The ways of all events, event by event.
-pub(crate) fn plan(
-    alloc: Global,
-    events: &[DeclaredEvent],
-    numbering: &Numbering,
-) -> Result<Vec<WayPlan>, Memory>
-    requires few { length events.now ≤ 16384 }
-    requires short { (n : ℕ) (d : DeclaredEvent) → Stands events.now n d
-        → length d.ways.items < 2 ^ 32 }
-    requires numbered { IsNumbered numbering.now }
-    requires within { AreFew numbering.now.counts.items (declared_from 0 events.now) }
-    ensures { IfOk result (λ plan. map planned_of plan.items
-        ≡ planned_ways numbering.now.counts.items (declared_from 0 events.now)) }
-{
-    let mut plan = Vec::new(alloc);
-    for (place, declared) in events.iter().enumerate() {
-        let event = EventId::new(place as u32);
-        plan_event(alloc, event, &declared.ways, numbering, &mut plan)?;
-    }
-    Ok(plan)
-}
-
 // Adds the ways of an event.
 fn plan_event(
     alloc: Global,
@@ -91,9 +91,9 @@ fn plan_event(
     plan: &mut Vec<WayPlan>,
 ) -> Result<(), Memory>
     requires short { length ways.now < 2 ^ 32 }
-    requires numbered { IsNumbered numbering.now }
+    requires numbered { IsNumberingKept numbering.now }
     requires within { way_count numbering.now.counts.items (map member_of ways.now) ≤ 256 }
-    ensures { OnOk result (Adds event.n (length plan.old.items)
+    ensures { OnOk result (AddsPlannedWays event.n (length plan.old.items)
         (bodies_by (λ k l. k) numbering.now.counts.items 0 (map member_of ways.now))
         plan.old.items plan.new.items) }
 {
@@ -114,10 +114,10 @@ fn plan_way(
     numbering: &Numbering,
     plan: &mut Vec<WayPlan>,
 ) -> Result<(), Memory>
-    requires numbered { IsNumbered numbering.now }
-    requires room { HasRoom first (member_count numbering.now.counts.items (member_of way.now))
+    requires numbered { IsNumberingKept numbering.now }
+    requires room { HasRoomForWays first (member_count numbering.now.counts.items (member_of way.now))
         plan.old.items }
-    ensures { OnOk result (Adds event.n first
+    ensures { OnOk result (AddsPlannedWays event.n first
         (bodies_by (λ k l. k) numbering.now.counts.items place (member_of way.now ∷ []))
         plan.old.items plan.new.items) }
 {
@@ -136,10 +136,10 @@ fn plan_choices(
     numbering: &Numbering,
     plan: &mut Vec<WayPlan>,
 ) -> Result<(), Memory>
-    requires numbered { IsNumbered numbering.now }
-    requires room { HasRoom first
+    requires numbered { IsNumberingKept numbering.now }
+    requires room { HasRoomForWays first
         (choices_of numbering.now.counts.items (map event_part_of parts.now)) plan.old.items }
-    ensures { OnOk result (Adds event.n first
+    ensures { OnOk result (AddsPlannedWays event.n first
         (map Joins (choices_by numbering.now.counts.items (map event_part_of parts.now)))
         plan.old.items plan.new.items) }
 {
@@ -161,7 +161,7 @@ fn choice(
     total: u32,
     place: u32,
 ) -> Result<Vec<(bool, WayId)>, Memory>
-    requires numbered { IsNumbered numbering.now }
+    requires numbered { IsNumberingKept numbering.now }
     requires total { total ≡ choices_of numbering.now.counts.items (map event_part_of parts.now) }
     requires place { place < total }
     ensures { IfOk result (λ chosen. Stands
@@ -184,9 +184,9 @@ fn choice(
 
 // Adds a way of the event whose first way has this place in the plan.
 fn push(plan: &mut Vec<WayPlan>, event: EventId, first: usize, body: PlanBody) -> Result<(), Memory>
-    requires { HasRoom first 1 plan.old.items }
+    requires { HasRoomForWays first 1 plan.old.items }
     ensures { OnOk result
-        (Adds event.n first (planned_body body ∷ []) plan.old.items plan.new.items) }
+        (AddsPlannedWays event.n first (planned_body body ∷ []) plan.old.items plan.new.items) }
 {
     let number = (plan.len() - first) as u32 + 1;
     plan.push(WayPlan {

@@ -4,8 +4,8 @@ ghost use Rattle.std.specs.Prelude.{◌≡◌, ◌<◌, ◌^◌, false, IfOk, On
 ghost use Rattle.ar_base.specs.declared.numbers.Id.{Id};
 ghost use Rattle.ar_base.specs.declared.numbers.EventKind.{EventKind};
 ghost use Rattle.sync_expand.specs.Expanding.{AreExpandable};
-ghost use Rattle.sync_expand.specs.Links.{IsPartOf};
-ghost use Rattle.sync_expand.specs.Reached.{AreReachCounts, AreReachedFrom, IsAmong, Opens, marked};
+ghost use Rattle.sync_expand.specs.Links.{IsPartOfWays};
+ghost use Rattle.sync_expand.specs.Reached.{AreReachCounts, AreReachedFrom, IsAmong, OpensEvents, marked};
 
 use ar_base::{EventId, Memory};
 use gts_core::{DeclaredEvent, DeclaredWay};
@@ -71,8 +71,8 @@ fn number_marked(marks: &[bool]) -> u32
 
 // Meets the parts of these ways.
 fn meet_parts(walk: &mut Walk, ways: &[DeclaredWay]) -> Result<(), Memory>
-    requires { (x : Id EventKind) → IsPartOf ways.now x → x.n < length walk.old.marks.items }
-    ensures { OnOk result (Opens (IsPartOf ways.now) walk.old walk.new) }
+    requires { (x : Id EventKind) → IsPartOfWays ways.now x → x.n < length walk.old.marks.items }
+    ensures { OnOk result (OpensEvents (IsPartOfWays ways.now) walk.old walk.new) }
 {
     for way in ways {
         if let DeclaredWay::Sync(parts, _) = way {
@@ -84,7 +84,7 @@ fn meet_parts(walk: &mut Walk, ways: &[DeclaredWay]) -> Result<(), Memory>
 
 fn meet_all(walk: &mut Walk, parts: &[(bool, EventId)]) -> Result<(), Memory>
     requires { (x : Id EventKind) → IsAmong parts.now x → x.n < length walk.old.marks.items }
-    ensures { OnOk result (Opens (IsAmong parts.now) walk.old walk.new) }
+    ensures { OnOk result (OpensEvents (IsAmong parts.now) walk.old walk.new) }
 {
     for (_, event) in parts {
         meet(walk, *event)?;
@@ -95,7 +95,7 @@ fn meet_all(walk: &mut Walk, parts: &[(bool, EventId)]) -> Result<(), Memory>
 // Marks and opens an event that was not met before.
 fn meet(walk: &mut Walk, event: EventId) -> Result<(), Memory>
     requires { event.n < length walk.old.marks.items }
-    ensures { OnOk result (Opens (λ x. x ≡ event) walk.old walk.new) }
+    ensures { OnOk result (OpensEvents (λ x. x ≡ event) walk.old walk.new) }
 {
     let place = event.n as usize;
     if !walk.marks[place] {

@@ -17,7 +17,7 @@ use Rattle.ar_meaning.proofs.Outcomes.{has_outcome}
 use Rattle.ar_firing.specs.Static.{IsStatic}
 use Rattle.ar_firing.specs.Cuts.{IsFirable}
 use Rattle.ar_firing.specs.Forest.{ModeTree, IsForest}
-use Rattle.ar_firing.specs.Operands.{HasFault, Shows, Agrees}
+use Rattle.ar_firing.specs.Operands.{HasFault, ShowsObserver, Agrees}
 use Rattle.gts_core.specs.Lawful.{IsLawful}
 use Rattle.eq_core.specs.Gates.{Table}
 use Rattle.eq_core.specs.Values.{value_at}
@@ -117,7 +117,7 @@ module _ (sys : System ℕ) (dropped : List ℕ) (kinds : ℕ → ValueKind) (ki
 
     -- where it is false, the state has flows, and the top operand says whether the observer has the wanted value
     shows : value_at table.gates table.conflict set ≡ false
-        → Shows sys.net t observer wanted (value_at table.gates table.top set)
+        → ShowsObserver sys.net t observer wanted (value_at table.gates table.top set)
     shows e =
         let o = has_outcome cases_eq sys.net t f.long in
         let k = is_known_at sys.net trees observer wanted table steps kinds lawful set t begun in

@@ -13,17 +13,17 @@ use Rattle.typed_expr.specs.declared.expr.ValueKind.TheVariants as kind
 use Rattle.typed_expr.specs.declared.expr.Expr.{Expr, out-Expr}
 use Rattle.ar_meaning.specs.Systems.{Assign, Variable, Net}
 use Rattle.ar_meaning.specs.Facts.{PassesConditions, Allows}
-use Rattle.ar_meaning.specs.FactsInside.{AreNumbered}
+use Rattle.ar_meaning.specs.FactsInside.{AreNumberedVariables}
 use Rattle.ar_meaning.specs.Facts as f
 use Rattle.gts_core.specs.Lawful.{IsTypedAssign, IsLawful}
 use Rattle.eq_core.specs.Gates.{Operand, Gate}
-use Rattle.eq_core.specs.ValuesInside.{Grows}
+use Rattle.eq_core.specs.ValuesInside.{GainsGates}
 use Rattle.eq_core.proofs.Telling.{grows_self, grows_on, tells_kept}
 use Rattle.eq_build.specs.Entries.{Entry}
 use Rattle.eq_build.specs.Tells.{AreEntries, IsBuilt}
 use Rattle.eq_build.proofs.EntriesTell.{entries_kept, entries_as, entry_tells}
 use Rattle.eq_build.proofs.BuildsTell.{IsRead, read_on, builds_tell}
-use Rattle.table_laws.specs.Known.{Gives}
+use Rattle.table_laws.specs.Known.{AssignsValue}
 use Rattle.table_steps.specs.Steps.{Reading, Threads, none, one_and, BuiltAssign, Builds_conditions, Builds_assign, builds, Gives_target, gives, assigns_to, RoundOf, round_of}
 use Rattle.table_steps.specs.Steps as w
 use Rattle.table_laws.proofs.OperandsTell.{TellTogether, together_kept, together_as, together_before, nothing_told}
@@ -64,7 +64,7 @@ assign_one x (b ∷ assigns) a o t =
     go false i (inr p) r = r p
 
 -- in a numbered net the variable at a place is the one that allows a value for its number
-pub allowed_there : (net : Net ℕ) → AreNumbered net → (n : ℕ) (x : Variable ℕ) → Stands net.variables n x
+pub allowed_there : (net : Net ℕ) → AreNumberedVariables net → (n : ℕ) (x : Variable ℕ) → Stands net.variables n x
     → (d : Value) → Allows net n d → Contains x.domain d
 allowed_there net numbered n x s d a =
     let i : a.place ≡ n = sym (numbered.key a.place a.variable a.stands) ∙ a.is_key in
@@ -81,7 +81,7 @@ module _ (set : List ℕ) (kinds : ℕ → ValueKind) (facts : ℕ → Value →
   TypedConditions cs = (n : ℕ) (e : Expr ℕ) (b : Bool) → Stands cs n (e, b) → HasKind kinds (out-Expr ℕ e) kind.Truth
 
   record ConditionsTell (g h : List Gate) (cs : List (Expr ℕ × Bool)) (os : List Operand) : Type 0 where
-    pub grown : Grows g h
+    pub grown : GainsGates g h
     pub tell : TellTogether set h os (PassesConditions facts cs)
 
   conditions_tell : {g h : List Gate} {cs : List (Expr ℕ × Bool)} {os : List Operand}
@@ -101,7 +101,7 @@ module _ (set : List ℕ) (kinds : ℕ → ValueKind) (facts : ℕ → Value →
 
   -- the operands of an assignment tell whether it is reached, and its entries what it yields
   pub record AssignTells (g : List Gate) (a : Assign ℕ) (r : BuiltAssign) : Type 0 where
-    pub grown : Grows g r.gates
+    pub grown : GainsGates g r.gates
     pub conditions : TellTogether set r.gates r.conditions (PassesConditions facts a.conditions)
     pub entries : AreEntries set r.gates r.entries (Yields facts (out-Expr ℕ a.value))
 
@@ -126,7 +126,7 @@ module _ (set : List ℕ) (kinds : ℕ → ValueKind) (facts : ℕ → Value →
 
   record AllGiven (ds : List Value) (g h : List Gate) (assigns : List (Assign ℕ)) (ess : List (List Entry))
       : Type 0 where
-    pub grown : Grows g h
+    pub grown : GainsGates g h
     pub tell : EntriesTell set h (Adds ds) assigns ess
 
   all_given : (domain : List Value) {g h : List Gate} {assigns : List (Assign ℕ)} {ess : List (List Entry)}
@@ -142,7 +142,7 @@ module _ (set : List ℕ) (kinds : ℕ → ValueKind) (facts : ℕ → Value →
   module _ (net : Net ℕ) (lawful : IsLawful net kinds) where
     -- what a flow is known to be in a round
     pub record Comes (n : ℕ) (d : Value) : Type 0 where
-      pub gives : Gives net facts n d
+      pub gives : AssignsValue net facts n d
       pub allowed : Allows net n d
 
     round_of_tells : {g h : List Gate} {n : ℕ} {es : List Entry} → RoundOf net read g n es h → Read g
@@ -177,7 +177,7 @@ module _ (set : List ℕ) (kinds : ℕ → ValueKind) (facts : ℕ → Value →
             }
 
     pub record RoundTells (g h : List Gate) (block : List ℕ) (rows : List (List Entry)) : Type 0 where
-      pub grown : Grows g h
+      pub grown : GainsGates g h
       pub tell : EntriesTell set h Comes block rows
 
     -- a round

@@ -3,7 +3,7 @@ use Rattle.std.proofs.Common.{◌≡◌, ℕ, zero, suc, ◌<◌, ◌⊎◌, inl
 use Rattle.ar_base.specs.Lists.{Stands, IsOneOf}
 use Rattle.ar_base.proofs.Standing.{stands_none, stands_one, one_none, along_back, along_on}
 use Rattle.ar_meaning.specs.Systems.{Assign, Variable, Net}
-use Rattle.ar_meaning.specs.FactsInside.{AreKeyed, AreNumbered}
+use Rattle.ar_meaning.specs.FactsInside.{AreKeyed, AreNumberedVariables}
 use Rattle.ar_meaning.specs.Dependence.{Names, IsFlow, flow_count}
 use Rattle.flow_blocks.specs.Blocks.{directly}
 use Rattle.flow_blocks.proofs.LawLemmas.{in_some, in_one, in_earlier}
@@ -21,7 +21,7 @@ within_take (y ∷ xs) zero n x s = absurd (stands_none n x s)
 within_take (y ∷ xs) (suc k) zero x s = (omega arith, s)
 within_take (y ∷ xs) (suc k) (suc n) x s = let r = within_take xs k n x s in (let l = r.0 in omega (arith, l), r.1)
 
-module _ (net : Net ℕ) (keyed : AreKeyed net) (numbered : AreNumbered net)
+module _ (net : Net ℕ) (keyed : AreKeyed net) (numbered : AreNumberedVariables net)
     (targets : (a : Assign ℕ) → IsOneOf net.assertions a → IsSomeFlow net a.target)
     (blocks : List (List ℕ)) (b : AreBlocks net blocks) where
   abbrev IsNumber : ℕ → ℕ → Type 0

@@ -13,7 +13,7 @@ use Rattle.ar_meaning.proofs.Least.{passes_more, closed}
 use Rattle.ar_meaning.proofs.OneAnswer.{same_value}
 use Rattle.ar_meaning.proofs.Completing.{Stays, as_state, as_known, as_reset, stays_at}
 use Rattle.ar_firing.specs.Operands.{HasFault}
-use Rattle.table_laws.specs.Known.{Holds, IsKnown, HasBroken, Totals, is_known, is_reset, IsConflict, seen_two, seen_outside, seen_broken, IsSomeFlow, AreOfFlows}
+use Rattle.table_laws.specs.Known.{ReadingHolds, IsKnownInTheEnd, HasBroken, Totals, is_known, is_reset, IsConflict, seen_two, seen_outside, seen_broken, IsSomeFlow, AreOfFlows}
 use Rattle.table_laws.proofs.Rounds.{facts_known, known_sound, HaveOne}
 
 -- what is at odds with some facts is at odds with more
@@ -31,7 +31,7 @@ broken_more {V = V} net P Q h o = record {
 }
 
 module _ {V : Type 0} (net : Net V) (keyed : AreKeyed net) (t : List Value) (blocks : List (List V))
-    (known : V → Value → Bool) (k : IsKnown net t blocks known) (flows : AreOfFlows net blocks) where
+    (known : V → Value → Bool) (k : IsKnownInTheEnd net t blocks known) (flows : AreOfFlows net blocks) where
   -- no variable is a state and a flow
   state_or_flow : (x : V) (v : Value) → HasStateValue net t x v → IsSomeFlow net x → ⊥
   state_or_flow x v g f =
@@ -153,12 +153,12 @@ module _ {V : Type 0} (net : Net V) (keyed : AreKeyed net) (t : List Value) (blo
       one n block s x v u o d e = same_value v u (λ i. same x v u (flows.members n block s x o)
           (known_sound net t blocks known k x v d) (known_sound net t blocks known k x u e) i)
 
-      even : HasBroken net (Holds known) → ⊥
+      even : HasBroken net (ReadingHolds known) → ⊥
       even o =
           let up = known_sound net t blocks known k in
           let f = flows.targets o.assign o.is_one in
-          let p = passes_more V (Holds known) (FactOf net t) up o.passes in
-          let y = yields_more V (Holds known) (FactOf net t) up o.yields in
+          let p = passes_more V (ReadingHolds known) (FactOf net t) up o.passes in
+          let y = yields_more V (ReadingHolds known) (FactOf net t) up o.yields in
           no_out.has_not f.1.place f.1.variable f.1.stands (record {
             is_flow = f.1.is_flow;
             assign = o.assign;
@@ -205,8 +205,8 @@ module _ {V : Type 0} (net : Net V) (keyed : AreKeyed net) (t : List Value) (blo
         value = h.value;
         is_one = h.is_one;
         is_target = h.is_target;
-        passes = passes_more V (Holds known) (FactOf net t) up h.passes;
-        yields = yields_more V (Holds known) (FactOf net t) up h.yields;
+        passes = passes_more V (ReadingHolds known) (FactOf net t) up h.passes;
+        yields = yields_more V (ReadingHolds known) (FactOf net t) up h.yields;
         outside = h.outside;
       })
       none_seen (seen_broken h) =
@@ -246,7 +246,7 @@ module _ {V : Type 0} (net : Net V) (keyed : AreKeyed net) (t : List Value) (blo
 
       full : (x : V) (v : Value) → FactOf net t x v → known x v ≡ true
       full = facts_known net t blocks known k one (λ h. free
-          (seen_broken (broken_more net (Holds known) (Totals net known) (λ x v e. is_known e) h)))
+          (seen_broken (broken_more net (ReadingHolds known) (Totals net known) (λ x v e. is_known e) h)))
 
       go : (o : Outcome) → Flows net t o → (values : List Value) × Flows net t (Total values)
           × ((x : V) (v : Value) → HasValue net values x v ↔ Totals net known x v)
@@ -275,9 +275,9 @@ module _ {V : Type 0} (net : Net V) (keyed : AreKeyed net) (t : List Value) (blo
         assign = h.has.assign;
         is_one = h.has.is_one;
         is_target = h.has.is_target;
-        passes = passes_more V (FactOf net t) (Holds known) full h.has.passes;
+        passes = passes_more V (FactOf net t) (ReadingHolds known) full h.has.passes;
         value = h.has.value;
-        yields = yields_more V (FactOf net t) (Holds known) full h.has.yields;
+        yields = yields_more V (FactOf net t) (ReadingHolds known) full h.has.yields;
         outside = h.has.outside;
       })))
       go (Fails f) (w.broken values a b c h) =

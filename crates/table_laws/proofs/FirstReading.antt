@@ -8,7 +8,7 @@ use Rattle.domains.specs.declared.Value.{Value}
 use Rattle.ar_meaning.specs.Systems.{Variable, System}
 use Rattle.ar_meaning.specs.Runs.{Label}
 use Rattle.ar_meaning.specs.Facts.{HasStateValue}
-use Rattle.ar_meaning.specs.FactsInside.{AreKeyed, AreNumbered}
+use Rattle.ar_meaning.specs.FactsInside.{AreKeyed, AreNumberedVariables}
 use Rattle.ar_firing.specs.Fragment.{Edge, IsModeOf, named, first}
 use Rattle.ar_firing.specs.Static.{IsStatic}
 use Rattle.ar_firing.specs.Cuts.{IsFirable}
@@ -68,7 +68,7 @@ variable_or_none [] n = inr (λ x s. stands_none n x s)
 variable_or_none (v ∷ vs) zero = inl (v, refl)
 variable_or_none (v ∷ vs) (suc n) = variable_or_none vs n
 
-module _ (sys : System ℕ) (dropped : List ℕ) (keyed : AreKeyed sys.net) (numbered : AreNumbered sys.net)
+module _ (sys : System ℕ) (dropped : List ℕ) (keyed : AreKeyed sys.net) (numbered : AreNumberedVariables sys.net)
     (static : IsStatic sys dropped)
     (inits : (n : ℕ) (x : Variable ℕ) → Stands sys.net.variables n x → Contains x.domain x.value)
     (set : List ℕ) (t : List Value) (f : IsFirable sys dropped set t) (trees : List ModeTree)

@@ -10,10 +10,10 @@ use Rattle.ar_meaning.specs.Dependence.{Names}
 use Rattle.gts_core.specs.Lawful.{IsLawful}
 use Rattle.eq_core.specs.Gates.{Gate}
 use Rattle.eq_core.specs.Values.{value_at}
-use Rattle.eq_core.specs.ValuesInside.{Grows}
+use Rattle.eq_core.specs.ValuesInside.{GainsGates}
 use Rattle.eq_core.proofs.Telling.{grows_on}
 use Rattle.eq_build.specs.Entries.{operand_for}
-use Rattle.table_laws.specs.Known.{HasRounds, IsKnown, IsSomeFlow, AreOfFlows}
+use Rattle.table_laws.specs.Known.{HasRounds, IsKnownInTheEnd, IsSomeFlow, AreOfFlows}
 use Rattle.table_steps.specs.Steps.{Reading, All_rounds, no_block, block_and}
 use Rattle.table_laws.proofs.Growing.{all_rounds_more}
 use Rattle.table_laws.proofs.RoundsHold.{held, IsSound, Follows, RoundsHold, rounds_hold, reading_at, reading_first, reading_last}
@@ -90,7 +90,7 @@ module _ (set : List ℕ) (kinds : ℕ → ValueKind) (net : Net ℕ) (lawful : 
     pub each : (n : ℕ) (b : List ℕ) → Stands blocks n b → BlockHolds blocks n b read last
 
   pub all_hold : {blocks : List (List ℕ)} {g h : List Gate} {read last : Reading}
-      → All_rounds net blocks g read last h → SoundAt g read → Grows h gates → AllHold blocks h read last
+      → All_rounds net blocks g read last h → SoundAt g read → GainsGates h gates → AllHold blocks h read last
   all_hold no_block s top =
       record { is_sound = s; outside = λ x. inr refl; each = λ n b e. absurd (stands_none n b e) }
   all_hold (block_and {block = b} {blocks = bs} {g = g0} {h = h0} {i = i0} {read = read} {mid = mid} {last = last} c d)
@@ -181,10 +181,10 @@ module _ (set : List ℕ) (kinds : ℕ → ValueKind) (net : Net ℕ) (lawful : 
 
   -- what is known in the end
   pub all_known : {blocks : List (List ℕ)} {g h : List Gate} {read last : Reading} (t : List Value)
-      → All_rounds net blocks g read last h → SoundAt g read → Grows h gates → AreInOrder net blocks
+      → All_rounds net blocks g read last h → SoundAt g read → GainsGates h gates → AreInOrder net blocks
       → AreOfFlows net blocks → ((x : ℕ) (d : Value) → (held set gates read x d ≡ true) ↔ HasStateValue net t x d)
       → ((x : ℕ) (d : Value) → HasStateValue net t x d → IsSomeFlow net x → ⊥)
-      → IsKnown net t blocks (held set gates last)
+      → IsKnownInTheEnd net t blocks (held set gates last)
   all_known {blocks = blocks} {read = read} {last = last} t c s top order flows given states =
       let r = all_hold c s top in
       record {

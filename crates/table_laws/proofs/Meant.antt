@@ -24,7 +24,7 @@ use Rattle.mode_trees.specs.Views.{trees_of}
 use Rattle.mode_trees.specs.declared.forests.Forest.{Forest}
 use Rattle.zdd_families.specs.Families.{Family as Sets, has}
 use Rattle.zdd_families.proofs.Minimal.{member_of}
-use Rattle.zdd_nodes.specs.Nodes.{IsNumber}
+use Rattle.zdd_nodes.specs.Nodes.{IsFamilyNumber}
 use Rattle.eq_core.specs.Gates.{Table}
 use Rattle.eq_core.specs.Values.{value_at}
 use Rattle.firable_families.specs.Firable.{AndUpTo}
@@ -203,6 +203,6 @@ drawn_firable order trees table (Cuts f) a = λ s h.
     firable_of order trees s (listed_firable order trees (value_at table.gates table.top) (sets_of f) a.2 s h)
 
 pub drawn_stored : (order : Option ℕ) (trees : List ModeTree) (table : Table) (drawn : Drawn)
-    → IsAnswerUpTo order trees table drawn → IsNumber (family_of drawn).store (family_of drawn).root.n
+    → IsAnswerUpTo order trees table drawn → IsFamilyNumber (family_of drawn).store (family_of drawn).root.n
 drawn_stored order trees table (Conflicts f) a = a.1
 drawn_stored order trees table (Cuts f) a = a.1

@@ -20,7 +20,7 @@ use Rattle.ar_firing.proofs.TreeEdges.{row_is_live, live_is_row}
 use Rattle.ar_firing.proofs.Shapes.{is_tree}
 use Rattle.eq_core.specs.Gates.{EventIs, Gate, all_of}
 use Rattle.eq_core.specs.Values.{has_event}
-use Rattle.eq_core.specs.ValuesInside.{IsTrueWhere, Grows}
+use Rattle.eq_core.specs.ValuesInside.{IsTrueWhere, GainsGates}
 use Rattle.eq_core.proofs.Telling.{grows_self, grows_on, tells_kept, tells_as, all_tells, all_more}
 use Rattle.eq_build.specs.Entries.{Entry, Built}
 use Rattle.eq_build.specs.Tells.{AreEntries}
@@ -102,7 +102,7 @@ module _ (set : List ℕ) where
 
   -- the entries of the modes that these edges enter
   record AreEntered (P : Value → Type 0) (g : List Gate) (rs : List Row) (b : Built) : Type 0 where
-    pub grown : Grows g b.gates
+    pub grown : GainsGates g b.gates
     pub tells : (e : Entry) → IsOneOf b.entries e → IsTrueWhere set b.gates e.operand (P e.value)
     pub comes : (r : Row) → IsOneOf rs r → P r.to → (e : Entry) × IsOneOf b.entries e × (e.value ≡ r.to)
     pub of_row : (e : Entry) → IsOneOf b.entries e → (r : Row) × IsOneOf rs r × (r.to ≡ e.value)
@@ -159,7 +159,7 @@ module _ (set : List ℕ) where
       pub differ : Differ es
 
     modes_tell : (g : List Gate) (tree : ModeTree) → IsModeTree sys dropped tree
-        → Grows g (modes_of tree g).gates × TreeTells (modes_of tree g).gates tree (modes_of tree g).entries
+        → GainsGates g (modes_of tree g).gates × TreeTells (modes_of tree g).gates tree (modes_of tree g).entries
     modes_tell g tree k =
         let n = tree.variable in
         let p = k.is_mode in
@@ -224,14 +224,14 @@ module _ (set : List ℕ) where
           },
         )
 
-    tree_kept : {g h : List Gate} {tree : ModeTree} {es : List Entry} → Grows g h → TreeTells g tree es
+    tree_kept : {g h : List Gate} {tree : ModeTree} {es : List Entry} → GainsGates g h → TreeTells g tree es
         → TreeTells h tree es
     tree_kept s a = record { entries = entries_kept s a.entries; differ = a.differ }
 
     pub all_modes_tell : (trees : List ModeTree) {g h : List Gate} {ess : List (List Entry)}
         → Threads Has_modes g trees ess h
         → ((n : ℕ) (tree : ModeTree) → Stands trees n tree → IsModeTree sys dropped tree)
-        → Grows g h × Along (TreeTells h) trees ess
+        → GainsGates g h × Along (TreeTells h) trees ess
     all_modes_tell [] (none {g = g}) k = (grows_self g, l.none)
     all_modes_tell (tree ∷ trees) (one_and {g = g} {h = h} {b = es} c d) k =
         let r = all_modes_tell trees d (λ n u s. k (suc n) u s) in
@@ -239,5 +239,5 @@ module _ (set : List ℕ) where
         (grows_on m.0 r.0, l.one_and (tree_kept r.0 m.1) r.1)
       where
         at : (g : List Gate) (tree : ModeTree) (h : List Gate) (es : List Entry) → Has_modes g tree es h
-            → IsModeTree sys dropped tree → Grows g h × TreeTells h tree es
+            → IsModeTree sys dropped tree → GainsGates g h × TreeTells h tree es
         at g tree h es modes k = modes_tell g tree k

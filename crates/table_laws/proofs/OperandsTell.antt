@@ -6,7 +6,7 @@ use Rattle.ar_base.proofs.Standing.{one_cases, one_first, one_rest, one_none, on
 use Rattle.eq_core.specs.Gates.{Operand, Gate, any_of}
 use Rattle.eq_core.specs.Ordered.{AreBelow}
 use Rattle.eq_core.specs.Values.{value_at}
-use Rattle.eq_core.specs.ValuesInside.{IsBelow, IsTrueWhere, Grows, EachTrue, OneTrue}
+use Rattle.eq_core.specs.ValuesInside.{IsBelow, IsTrueWhere, GainsGates, EachTrue, OneTrue}
 use Rattle.eq_core.proofs.Telling.{value_kept, below_kept, tells_kept, tells_as, any_tells}
 use Rattle.eq_build.specs.Entries.{one_of_alls}
 use Rattle.eq_build.proofs.EntriesTell.{OneAll, AllBelow, one_grows}
@@ -19,7 +19,7 @@ pub record TellTogether (set : List ℕ) (g : List Gate) (os : List Operand) (P 
   pub true_so : EachTrue set g os → P
   pub so_true : P → EachTrue set g os
 
-pub together_kept : {set : List ℕ} {g h : List Gate} {os : List Operand} {P : Type 0} → Grows g h
+pub together_kept : {set : List ℕ} {g h : List Gate} {os : List Operand} {P : Type 0} → GainsGates g h
     → TellTogether set g os P → TellTogether set h os P
 together_kept {set = set} s t = record {
   below = record { each = λ o m. below_kept o s (let b = t.below in b.each o m) };
@@ -98,7 +98,7 @@ pub record TellSome (set : List ℕ) (g : List Gate) (os : List Operand) (P : Ty
   pub true_so : OneTrue set g os → P
   pub so_true : P → OneTrue set g os
 
-pub some_kept : {set : List ℕ} {g h : List Gate} {os : List Operand} {P : Type 0} → Grows g h → TellSome set g os P
+pub some_kept : {set : List ℕ} {g h : List Gate} {os : List Operand} {P : Type 0} → GainsGates g h → TellSome set g os P
     → TellSome set h os P
 some_kept {set = set} s t = record {
   below = record { each = λ o m. below_kept o s (let b = t.below in b.each o m) };
@@ -180,8 +180,8 @@ some_along {A = A} P {set = set} {g = g} (l.one_and {a = a} {b = o} {xs = xs} {y
 
 -- the operands of steps in turn
 module _ {A : Type 0} (set : List ℕ) (R : List Gate → A → Operand → List Gate → Type 0)
-    (more : (g h : List Gate) (a : A) (o : Operand) → R g a o h → Grows g h)
-    (Inv : List Gate → Type 0) (kept : (g h : List Gate) → Grows g h → Inv g → Inv h) (Ok P : A → Type 0)
+    (more : (g h : List Gate) (a : A) (o : Operand) → R g a o h → GainsGates g h)
+    (Inv : List Gate → Type 0) (kept : (g h : List Gate) → GainsGates g h → Inv g → Inv h) (Ok P : A → Type 0)
     (tell : (g h : List Gate) (a : A) (o : Operand) → Ok a → Inv g → R g a o h → IsTrueWhere set h o (P a)) where
   pub threads_tell : {g h : List Gate} {xs : List A} {os : List Operand} → Threads R g xs os h
       → ((n : ℕ) (a : A) → Stands xs n a → Ok a) → Inv g → Along (λ a o. IsTrueWhere set h o (P a)) xs os

@@ -9,7 +9,7 @@ use Rattle.ar_meaning.specs.Systems.{Assign, Variable, Net}
 use Rattle.ar_meaning.specs.Facts.{Allows, HasStateValue, FactOf}
 use Rattle.ar_meaning.specs.Facts as f
 use Rattle.ar_meaning.proofs.Least.{least, closed}
-use Rattle.table_laws.specs.Known.{Holds, Gives, HasRounds, IsKnown, HasBroken}
+use Rattle.table_laws.specs.Known.{ReadingHolds, AssignsValue, HasRounds, IsKnownInTheEnd, HasBroken}
 use Rattle.ar_meaning.specs.Dependence.{Names}
 use Rattle.table_laws.proofs.Chain.{IsStill, all_known}
 
@@ -38,7 +38,7 @@ module _ {V : Type 0} (net : Net V) where
   -- facts of the variables that an assignment reads suffice for what it gives
   gives_named : (P Q : V → Value → Type 0) {x : V} {v : Value} → ((a : Assign V) → IsOneOf net.assertions a
       → a.target ≡ x → (y : V) (w : Value) → Names a y → P y w → Q y w)
-      → Gives net P x v → Gives net Q x v
+      → AssignsValue net P x v → AssignsValue net Q x v
   gives_named P Q h g =
       let k = h g.assign g.is_one g.is_target in
       record {
@@ -58,7 +58,7 @@ module _ {V : Type 0} (net : Net V) where
     grows zero x v l o e = absurd (let s = r.start x v o in cc)
     grows (suc k) x v l o e =
         r.whole (suc k) x v l o (r.allowed (suc k) x v o e)
-        (gives_named (Holds (r.reading k)) (Holds (r.reading (suc k)))
+        (gives_named (ReadingHolds (r.reading k)) (ReadingHolds (r.reading (suc k)))
         (λ a m i y w d p. elim (r.outside a y m (at_target a x i o) d)
         [ inl b ↦ grows k y w (omega (arith, l)) b p | inr q ↦ q (suc k) w ∙ sym (q k w) ∙ p ])
         (r.sound k x v (omega (arith, l)) o e))
@@ -80,7 +80,7 @@ module _ {V : Type 0} (net : Net V) where
         let j : m ≡ suc (d + k) = omega (arith, i) in
         let h = r.sound (d + k) x v (omega (arith, i, l)) o (subst (λ (m : ℕ). r.reading m x v ≡ true) j e) in
         s.still x v o (r.whole k x v (omega (arith, i, l)) o (r.allowed m x v o e)
-        (gives_named (Holds (r.reading (d + k))) (Holds (r.reading k))
+        (gives_named (ReadingHolds (r.reading (d + k))) (ReadingHolds (r.reading k))
         (λ a n t y w u p. elim (r.outside a y n (at_target a x t o) u) [
           | inl b ↦ no_more k s d (d + k) refl
               (omega (arith, i, l)) y w b p
@@ -98,11 +98,11 @@ module _ {V : Type 0} (net : Net V) where
 
     -- where the last reading gives something that it does not hold, something came in each round
     moves : (x : V) (v : Value) → IsOneOf block x → Allows net x v
-        → Gives net (Holds (r.reading (length block))) x v → r.reading (length block) x v ≡ false
+        → AssignsValue net (ReadingHolds (r.reading (length block))) x v → r.reading (length block) x v ≡ false
         → (k : ℕ) → k < length block → IsStill block values r.reading k → ⊥
     moves x v o a g f k l s =
         let n = length block in
-        let h = gives_named (Holds (r.reading n)) (Holds (r.reading k))
+        let h = gives_named (ReadingHolds (r.reading n)) (ReadingHolds (r.reading k))
         (λ b m i y w d p. elim (r.outside b y m (at_target b x i o) d) [
           | inl c ↦ no_more k s (n - k) n
               (omega (arith, l)) (omega arith) y w c p
@@ -112,22 +112,22 @@ module _ {V : Type 0} (net : Net V) where
         cc
 
     -- what the last round's reading gives, what is known gives, and the other way round
-    to_known : (x : V) (v : Value) → IsOneOf block x → Gives net (Holds (r.reading (length block))) x v
-        → Gives net (Holds known) x v
-    to_known x v o = gives_named (Holds (r.reading (length block))) (Holds known)
+    to_known : (x : V) (v : Value) → IsOneOf block x → AssignsValue net (ReadingHolds (r.reading (length block))) x v
+        → AssignsValue net (ReadingHolds known) x v
+    to_known x v o = gives_named (ReadingHolds (r.reading (length block))) (ReadingHolds known)
         (λ a m i y w n p. elim (r.outside a y m (at_target a x i o) n)
         [ inl b ↦ sym (r.last y w b) ∙ p | inr q ↦ sym (q (length block) w) ∙ p ])
 
-    from_known : (x : V) (v : Value) → IsOneOf block x → Gives net (Holds known) x v
-        → Gives net (Holds (r.reading (length block))) x v
-    from_known x v o = gives_named (Holds known) (Holds (r.reading (length block)))
+    from_known : (x : V) (v : Value) → IsOneOf block x → AssignsValue net (ReadingHolds known) x v
+        → AssignsValue net (ReadingHolds (r.reading (length block))) x v
+    from_known x v o = gives_named (ReadingHolds known) (ReadingHolds (r.reading (length block)))
         (λ a m i y w n p. elim (r.outside a y m (at_target a x i o) n)
         [ inl b ↦ r.last y w b ∙ p | inr q ↦ q (length block) w ∙ p ])
 
     -- what is known of the block is closed, if no assignment is at odds with what is known
     pub block_closed : ((x : V) (v w : Value) → IsOneOf block x → known x v ≡ true → known x w ≡ true → v ≡ w)
-        → (HasBroken net (Holds known) → ⊥)
-        → (x : V) (v : Value) → IsOneOf block x → Allows net x v → Gives net (Holds known) x v → known x v ≡ true
+        → (HasBroken net (ReadingHolds known) → ⊥)
+        → (x : V) (v : Value) → IsOneOf block x → Allows net x v → AssignsValue net (ReadingHolds known) x v → known x v ≡ true
     block_closed one even x v o a g = go (known x v) refl
       where
         go : (b : Bool) → known x v ≡ b → known x v ≡ true
@@ -150,16 +150,16 @@ module _ {V : Type 0} (net : Net V) where
                   (let q : r.reading n x v ≡ true = subst (λ z. r.reading n x z ≡ true) (sym i) h in cc);
             }))
 
-  module _ (t : List Value) (blocks : List (List V)) (known : V → Value → Bool) (k : IsKnown net t blocks known) where
+  module _ (t : List Value) (blocks : List (List V)) (known : V → Value → Bool) (k : IsKnownInTheEnd net t blocks known) where
     -- the flows have one value each
     abbrev pub HaveOne : Type 0
     HaveOne = (n : ℕ) (block : List V) → Stands blocks n block → (x : V) (v w : Value) → IsOneOf block x
         → known x v ≡ true → known x w ≡ true → v ≡ w
 
     -- where no assignment is at odds with what is known, each fact is known
-    pub facts_known : HaveOne → (HasBroken net (Holds known) → ⊥) → (x : V) (v : Value) → FactOf net t x v
+    pub facts_known : HaveOne → (HasBroken net (ReadingHolds known) → ⊥) → (x : V) (v : Value) → FactOf net t x v
         → known x v ≡ true
-    facts_known one even = least net.assertions (Allows net) (HasStateValue net t) (Holds known) k.given
+    facts_known one even = least net.assertions (Allows net) (HasStateValue net t) (ReadingHolds known) k.given
         (λ a v m p y l.
         let b = k.covers a m in
         block_closed known b.0 (k.rounds b.1.place b.0 b.1.stands) (one b.1.place b.0 b.1.stands) even a.target v
@@ -172,7 +172,7 @@ module _ {V : Type 0} (net : Net V) where
         → r.reading j x v ≡ true → FactOf net t x v
     round_sound n block s before r zero x v l o e = absurd (let h = r.start x v o in cc)
     round_sound n block s before r (suc j) x v l o e =
-        let g = gives_named (Holds (r.reading j)) (FactOf net t)
+        let g = gives_named (ReadingHolds (r.reading j)) (FactOf net t)
         (λ a m i y w d p.
         let b = at_target known block r a x i o in
         elim (r.outside a y m b d) [

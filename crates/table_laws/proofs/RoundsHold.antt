@@ -13,12 +13,12 @@ use Rattle.ar_meaning.specs.Facts.{Allows}
 use Rattle.gts_core.specs.Lawful.{IsLawful}
 use Rattle.eq_core.specs.Gates.{Gate}
 use Rattle.eq_core.specs.Values.{value_at}
-use Rattle.eq_core.specs.ValuesInside.{Grows}
+use Rattle.eq_core.specs.ValuesInside.{GainsGates}
 use Rattle.eq_core.proofs.Telling.{grows_on, tells_kept}
 use Rattle.eq_build.specs.Entries.{Entry, operand_for}
 use Rattle.eq_build.specs.Tells.{AreEntries}
 use Rattle.eq_build.proofs.EntriesTell.{entries_kept, entries_as, entry_tells}
-use Rattle.table_laws.specs.Known.{Holds, Gives}
+use Rattle.table_laws.specs.Known.{ReadingHolds, AssignsValue}
 use Rattle.table_steps.specs.Steps.{Reading, Threads, RoundOf, updated, Rounds, no_round, round_and}
 use Rattle.table_laws.proofs.Growing.{rounds_more}
 use Rattle.table_laws.proofs.AssignsTell.{Comes, round_tells}
@@ -28,12 +28,12 @@ abbrev pub held : List ℕ → List Gate → Reading → ℕ → Value → Bool
 held set gates read x d = value_at gates (operand_for (read x) d) set
 
 -- entries that tell of something at some gates tell of what they hold with more gates
-pub to_held : {set : List ℕ} {g h : List Gate} {es : List Entry} {P : Value → Type 0} → Grows g h
+pub to_held : {set : List ℕ} {g h : List Gate} {es : List Entry} {P : Value → Type 0} → GainsGates g h
     → AreEntries set g es P → AreEntries set g es (λ d. value_at h (operand_for es d) set ≡ true)
 to_held s a = entries_as (λ d p. let t = tells_kept s (entry_tells a d) in t.so_true p)
     (λ d e. let t = tells_kept s (entry_tells a d) in t.true_so e) a
 
-pub held_is : {set : List ℕ} {g h : List Gate} {es : List Entry} {P : Value → Type 0} → Grows g h
+pub held_is : {set : List ℕ} {g h : List Gate} {es : List Entry} {P : Value → Type 0} → GainsGates g h
     → AreEntries set g es P → (d : Value) → (value_at h (operand_for es d) set ≡ true) ↔ P d
 held_is s a d = let t = tells_kept s (entry_tells a d) in (t.true_so, t.so_true)
 
@@ -68,27 +68,27 @@ is_updated P read (l.one_and {a = n} {b = row} {xs = ns} {ys = rows} p t) x =
 module _ (set : List ℕ) (kinds : ℕ → ValueKind) (net : Net ℕ) (lawful : IsLawful net kinds) (gates : List Gate) where
   -- a reading that tells of what it holds, each value of its variable's domain
   pub record IsSound (g : List Gate) (read : Reading) : Type 0 where
-    pub each : (x : ℕ) → AreEntries set g (read x) (Holds (held set gates read) x)
+    pub each : (x : ℕ) → AreEntries set g (read x) (ReadingHolds (held set gates read) x)
     pub allowed : (x : ℕ) (d : Value) → held set gates read x d ≡ true → Allows net x d
 
   -- one reading follows on another
   pub record Follows (block : List ℕ) (read next : Reading) : Type 0 where
     pub sound : (x : ℕ) (d : Value) → IsOneOf block x → held set gates next x d ≡ true
-        → Gives net (Holds (held set gates read)) x d
-    pub whole : (x : ℕ) (d : Value) → IsOneOf block x → Allows net x d → Gives net (Holds (held set gates read)) x d
+        → AssignsValue net (ReadingHolds (held set gates read)) x d
+    pub whole : (x : ℕ) (d : Value) → IsOneOf block x → Allows net x d → AssignsValue net (ReadingHolds (held set gates read)) x d
         → held set gates next x d ≡ true
     pub outside : (x : ℕ) → IsOneOf block x ⊎ (next x ≡ read x)
 
   pub record RoundHolds (g h : List Gate) (block : List ℕ) (read next : Reading) : Type 0 where
-    pub grown : Grows g h
+    pub grown : GainsGates g h
     pub is_sound : IsSound h next
     pub follows : Follows block read next
 
   pub round_holds : {g h : List Gate} {block : List ℕ} {read : Reading} {rows : List (List Entry)}
-      → Threads (RoundOf net read) g block rows h → IsSound g read → Grows h gates
+      → Threads (RoundOf net read) g block rows h → IsSound g read → GainsGates h gates
       → RoundHolds g h block read (updated read block rows)
   round_holds {g = g} {h = h} {block = block} {read = read} {rows = rows} c s top =
-      let facts : ℕ → Value → Type 0 = Holds (held set gates read) in
+      let facts : ℕ → Value → Type 0 = ReadingHolds (held set gates read) in
       let kept : (x : ℕ) (d : Value) → facts x d → kind_of d ≡ kinds x =
       λ x d e. lawful.of_kind x d (s.allowed x d e) in
       let r = round_tells set kinds facts kept read net lawful c (record { each = s.each }) in
@@ -146,7 +146,7 @@ module _ (set : List ℕ) (kinds : ℕ → ValueKind) (net : Net ℕ) (lawful : 
     pub allowed : (k : ℕ) (x : ℕ) (d : Value) → held set gates (at k) x d ≡ true → Allows net x d
 
   pub rounds_hold : {block : List ℕ} {n : ℕ} {g h : List Gate} {read last : Reading}
-      (r : Rounds net block n g read last h) → IsSound g read → Grows h gates
+      (r : Rounds net block n g read last h) → IsSound g read → GainsGates h gates
       → RoundsHold block n h read last (reading_at r)
   rounds_hold no_round s top = record {
     is_sound = s;

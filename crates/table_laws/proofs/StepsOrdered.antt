@@ -11,7 +11,7 @@ use Rattle.ar_firing.specs.Forest.{Row, ModeTree}
 use Rattle.ar_firing.specs.Trees.{IsTree}
 use Rattle.eq_core.specs.Gates.{Operand, EventIs, Gate, opposite, all_of}
 use Rattle.eq_core.specs.Ordered.{AreBelow, AreOrdered}
-use Rattle.eq_core.specs.ValuesInside.{Grows, IsBelow}
+use Rattle.eq_core.specs.ValuesInside.{GainsGates, IsBelow}
 use Rattle.eq_core.proofs.Ordering.{joined_ordered, none_earlier}
 use Rattle.eq_core.proofs.Telling.{grows_self, grows_on, below_kept, opposite_below, all_more}
 use Rattle.eq_build.specs.Entries.{Entry, Built, Term, operand_for, all_of_each, one_of_alls, entries_for}
@@ -28,7 +28,7 @@ use Rattle.table_laws.proofs.ModesTell.{RowsDiffer, rows_differ}
 
 -- more gates, in order, on which something holds
 pub record Kept (g h : List Gate) (Fine : Type 0) : Type 0 where
-  pub grown : Grows g h
+  pub grown : GainsGates g h
   pub ordered : AreOrdered h
   pub fine : Fine
 
@@ -137,8 +137,8 @@ modes_kept g tree shape a =
 
 -- a list of steps, each of which keeps what is asked of the gates
 module _ {A B : Type 0} {R : List Gate → A → B → List Gate → Type 0} (Good : List Gate → Type 0)
-    (good_on : (g h : List Gate) → Grows g h → Good g → Good h) (Fine : List Gate → B → Type 0)
-    (fine_on : (g h : List Gate) (b : B) → Grows g h → Fine g b → Fine h b) (Fit : A → Type 0)
+    (good_on : (g h : List Gate) → GainsGates g h → Good g → Good h) (Fine : List Gate → B → Type 0)
+    (fine_on : (g h : List Gate) (b : B) → GainsGates g h → Fine g b → Fine h b) (Fit : A → Type 0)
     (each : (g h : List Gate) (a : A) (b : B) → Fit a → Good g → AreOrdered g → R g a b h → Kept g h (Fine h b)) where
   pub threads_kept : {g h : List Gate} {xs : List A} {ys : List B} → ((a : A) → IsOneOf xs a → Fit a) → Good g
       → AreOrdered g → Threads R g xs ys h → Kept g h ((b : B) → IsOneOf ys b → Fine h b)
@@ -264,7 +264,7 @@ module _ (read : Reading) where
   abbrev pub IsRead : List Gate → Type 0
   IsRead g = ReadsBelow read g
 
-  pub read_on : (g h : List Gate) → Grows g h → IsRead g → IsRead h
+  pub read_on : (g h : List Gate) → GainsGates g h → IsRead g → IsRead h
   read_on g h w r = record { each = λ x. entries_on (read x) w (r.each x) }
 
   built_kept : (e : Expr ℕ) {g : List Gate} {r : Built} → IsRead g → AreOrdered g → Builds read g (out-Expr ℕ e) r

@@ -10,7 +10,7 @@ use Rattle.ar_firing.specs.Forest.{ModeTree}
 use Rattle.ar_firing.specs.Trees.{IsTree, AreTrees}
 use Rattle.eq_core.specs.Gates.{Operand, Gate, Table, Made, any_of}
 use Rattle.eq_core.specs.Ordered.{AreBelow, AreOrdered, IsOrderedTable}
-use Rattle.eq_core.specs.ValuesInside.{Grows, IsBelow}
+use Rattle.eq_core.specs.ValuesInside.{GainsGates, IsBelow}
 use Rattle.eq_core.proofs.Ordering.{joined_ordered, none_earlier}
 use Rattle.eq_core.proofs.Telling.{grows_self, grows_on, below_kept, any_more}
 use Rattle.eq_build.specs.Entries.{Entry}
@@ -26,7 +26,7 @@ use Rattle.table_laws.proofs.StepsOrdered.{Kept, IsRow, modes_kept, threads_kept
 no_entries : (g : List Gate) → EntriesBelow g []
 no_entries g = record { each = λ e m. absurd (one_none e m) }
 
-row_on : (g h : List Gate) (es : List Entry) → Grows g h → IsRow g es → IsRow h es
+row_on : (g h : List Gate) (es : List Entry) → GainsGates g h → IsRow g es → IsRow h es
 row_on g h es w r = record { below = entries_on es w r.below; differ = r.differ }
 
 -- what the variables read before the rounds
@@ -116,7 +116,7 @@ module _ (net : Net ℕ) where
         (record { each = λ x. first_below t.after_modes trees t.modes m.fine 0 net.variables x })
         m.ordered t.has_rounds
 
-    operand_on : (g h : List Gate) (o : Operand) → Grows g h → IsBelow (length g) o → IsBelow (length h) o
+    operand_on : (g h : List Gate) (o : Operand) → GainsGates g h → IsBelow (length g) o → IsBelow (length h) o
     operand_on g h o w l = below_kept o w l
 
     twos_in : Kept t.after_rounds t.after_twos ((o : Operand) → IsOneOf t.twos o → IsBelow (length t.after_twos) o)
@@ -184,11 +184,11 @@ module _ (net : Net ℕ) where
         let gates : AreOrdered t.after_conflict = subst (λ (z : Made). AreOrdered z.gates) made c.gates in
         let conflict : IsBelow (length t.after_conflict) table.conflict
         = subst (λ (z : Made). IsBelow (length z.gates) z.operand) made c.below in
-        let more : Grows t.after_broken t.after_conflict
-        = subst (λ (z : Made). Grows t.after_broken z.gates) made (any_more t.after_broken all) in
+        let more : GainsGates t.after_broken t.after_conflict
+        = subst (λ (z : Made). GainsGates t.after_broken z.gates) made (any_more t.after_broken all) in
         let read = read_on t.total t.after_totals t.after_conflict (grows_on b.grown more) total_read in
         let seen = builds_ordered t.total t.observed gates read in
-        let end : Grows t.after_conflict t.seen.gates = builds_more t.observed in
+        let end : GainsGates t.after_conflict t.seen.gates = builds_more t.observed in
         let top : IsBelow (length t.seen.gates) table.top
         = subst (λ z. IsBelow (length t.seen.gates) z) (sym t.top) (read_below t.seen.entries wanted seen.entries) in
         record {

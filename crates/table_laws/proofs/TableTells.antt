@@ -15,13 +15,13 @@ use Rattle.ar_meaning.specs.Facts.{PassesConditions, Allows, HasStateValue}
 use Rattle.ar_firing.specs.Forest.{ModeTree}
 use Rattle.gts_core.specs.Lawful.{IsTypedAssign, IsLawful}
 use Rattle.eq_core.specs.Gates.{Operand, Gate, Made, Table}
-use Rattle.eq_core.specs.ValuesInside.{IsTrueWhere, Grows}
+use Rattle.eq_core.specs.ValuesInside.{IsTrueWhere, GainsGates}
 use Rattle.eq_core.proofs.Telling.{grows_on, tells_kept, tells_as}
 use Rattle.eq_build.specs.Entries.{Entry, operand_for}
 use Rattle.eq_build.specs.Tells.{AreEntries}
 use Rattle.eq_build.proofs.EntriesTell.{entries_kept, entries_as, entry_tells}
 use Rattle.eq_build.proofs.BuildsTell.{builds_tell}
-use Rattle.table_laws.specs.Known.{Holds, IsSomeFlow, AreOfFlows, IsKnown, Totals, is_known, is_reset, IsConflict, seen_two, seen_outside, seen_broken}
+use Rattle.table_laws.specs.Known.{ReadingHolds, IsSomeFlow, AreOfFlows, IsKnownInTheEnd, Totals, is_known, is_reset, IsConflict, seen_two, seen_outside, seen_broken}
 use Rattle.table_steps.specs.Steps.{Reading, Threads, updated, Sees_two, sees_two, Sees_outside, sees_outside, Sees_broken, sees_broken, MayLeave, Totals_of, total, flows_from, first_reading}
 use Rattle.table_steps.specs.Steps as w
 use Rattle.table_steps.specs.Table.{IsTable, flow_numbers}
@@ -71,7 +71,7 @@ module _ (net : Net ℕ) (trees : List ModeTree) (observer : Expr ℕ) (wanted :
   resets : (n : ℕ) (x : Variable ℕ) → Stands net.variables n x → Contains x.domain x.value
   resets n x s = lawful.begins x (one_here net.variables n x s)
 
-  pub is_known_at : IsKnown net t steps.blocks known_at
+  pub is_known_at : IsKnownInTheEnd net t steps.blocks known_at
   is_known_at = all_known set kinds net lawful steps.seen.gates t steps.has_rounds begun.sound (rounds_to_seen steps)
       begun.order begun.of_flows begun.given begun.states
 
@@ -81,12 +81,12 @@ module _ (net : Net ℕ) (trees : List ModeTree) (observer : Expr ℕ) (wanted :
       r.is_sound
 
   record KnownTold (g : List Gate) : Type 0 where
-    pub each : (x : ℕ) → AreEntries set g (steps.known x) (Holds known_at x)
+    pub each : (x : ℕ) → AreEntries set g (steps.known x) (ReadingHolds known_at x)
 
-  known_kept : (g h : List Gate) → Grows g h → KnownTold g → KnownTold h
+  known_kept : (g h : List Gate) → GainsGates g h → KnownTold g → KnownTold h
   known_kept g h s k = record { each = λ x. entries_kept s (k.each x) }
 
-  known_kinds : (x : ℕ) (d : Value) → Holds known_at x d → kind_of d ≡ kinds x
+  known_kinds : (x : ℕ) (d : Value) → ReadingHolds known_at x d → kind_of d ≡ kinds x
   known_kinds x d e = lawful.of_kind x d (let s = sound_known in s.allowed x d e)
 
   after_rounds_told : KnownTold steps.after_rounds
@@ -100,7 +100,7 @@ module _ (net : Net ℕ) (trees : List ModeTree) (observer : Expr ℕ) (wanted :
 
   -- two values
   abbrev Two : ℕ → Type 0
-  Two n = HasBoth (Holds known_at n)
+  Two n = HasBoth (ReadingHolds known_at n)
 
   twos_told : TellSome set steps.after_twos steps.twos (SomeIs Two numbers)
   twos_told = some_along Two (threads_tell set (Sees_two steps.known) (two_more steps.known) KnownTold known_kept
@@ -113,7 +113,7 @@ module _ (net : Net ℕ) (trees : List ModeTree) (observer : Expr ℕ) (wanted :
   -- values outside
   abbrev Leaves : Variable ℕ × Assign ℕ → Type 0
   Leaves y =
-      LeavesBy (PassesConditions (Holds known_at) y.1.conditions) (Yields (Holds known_at) (out-Expr ℕ y.1.value))
+      LeavesBy (PassesConditions (ReadingHolds known_at) y.1.conditions) (Yields (ReadingHolds known_at) (out-Expr ℕ y.1.value))
       y.0.domain
 
   outs_told : TellSome set steps.after_outs steps.outs (SomeIs Leaves steps.leaving)
@@ -126,7 +126,7 @@ module _ (net : Net ℕ) (trees : List ModeTree) (observer : Expr ℕ) (wanted :
       at : (g h : List Gate) (y : Variable ℕ × Assign ℕ) (o : Operand) → IsTypedAssign kinds y.1 → KnownTold g
           → Sees_outside steps.known g y o h → IsTrueWhere set h o (Leaves y)
       at g h y o q k (sees_outside {x = x} {r = r} c) =
-          let a = assign_tells set kinds (Holds known_at) known_kinds steps.known c q (record { each = k.each }) in
+          let a = assign_tells set kinds (ReadingHolds known_at) known_kinds steps.known c q (record { each = k.each }) in
           outside_tells set r.gates x.domain a.conditions a.entries
 
   -- the total reading
@@ -134,12 +134,12 @@ module _ (net : Net ℕ) (trees : List ModeTree) (observer : Expr ℕ) (wanted :
     pub each : (x : ℕ) → AreEntries set g (steps.total x) (total_facts x)
 
   of_total : (n : ℕ) (x : Variable ℕ) → Stands net.variables n x → x.is_state ≡ false → (d : Value)
-      → IsTotal (Holds known_at n) x.value d → total_facts n d
+      → IsTotal (ReadingHolds known_at n) x.value d → total_facts n d
   of_total n x s f d (known e) = is_known e
   of_total n x s f d (unknown i lacks) = is_reset n x s f (key_is n x s) (sym i) lacks
 
   to_total : (n : ℕ) (x : Variable ℕ) → Stands net.variables n x → (d : Value) → total_facts n d
-      → IsTotal (Holds known_at n) x.value d
+      → IsTotal (ReadingHolds known_at n) x.value d
   to_total n x s d (is_known e) = known e
   to_total n x s d (is_reset m y st f key r lacks) =
       let i : m ≡ n = sym (key_is m y st) ∙ key in
@@ -167,7 +167,7 @@ module _ (net : Net ℕ) (trees : List ModeTree) (observer : Expr ℕ) (wanted :
       at : (g h : List Gate) (p : ℕ × Variable ℕ) (es : List Entry) → Totals_of steps.known g p es h → KnownTold g
           → IsListed p → TotalEntries h p.0 es
       at g h p es (total {n = n} {x = x}) k ok =
-          let r = total_built set (Holds known_at n) (steps.known n) x.value g (k.each n) in
+          let r = total_built set (ReadingHolds known_at n) (steps.known n) x.value g (k.each n) in
           entries_as (of_total n x ok.0 ok.1) (to_total n x ok.0) r.entries
 
   all_listed : (k : ℕ) (p : ℕ × Variable ℕ) → Stands flows k p → IsListed p
@@ -193,7 +193,7 @@ module _ (net : Net ℕ) (trees : List ModeTree) (observer : Expr ℕ) (wanted :
           subst (λ z. AreEntries set steps.after_totals z (total_facts x)) (sym i)
           (entries_as (λ d e. is_known e) (λ d h. back d h) (k.each x))
         where
-          back : (d : Value) → total_facts x d → Holds known_at x d
+          back : (d : Value) → total_facts x d → ReadingHolds known_at x d
           back d (is_known e) = e
           back d (is_reset n y s f key r lacks) =
               let j : n ≡ x = sym (key_is n y s) ∙ key in
@@ -213,7 +213,7 @@ module _ (net : Net ℕ) (trees : List ModeTree) (observer : Expr ℕ) (wanted :
     has = subst (λ z. Contains y.domain z) r (resets n y s);
   })
 
-  totals_kept : (g h : List Gate) → Grows g h → TotalsTold g → TotalsTold h
+  totals_kept : (g h : List Gate) → GainsGates g h → TotalsTold g → TotalsTold h
   totals_kept g h s k = record { each = λ x. entries_kept s (k.each x) }
 
   -- assignments that do not hold
@@ -313,7 +313,7 @@ module _ (net : Net ℕ) (trees : List ModeTree) (observer : Expr ℕ) (wanted :
       let k = key_is h.place h.variable h.stands in
       let may : MayLeave net h.assign h.variable = record {
         value = h.value;
-        may = yields_more ℕ (Holds known_at) (Allows net) (λ x d e. let s = sound_known in s.allowed x d e) h.yields;
+        may = yields_more ℕ (ReadingHolds known_at) (Allows net) (λ x d e. let s = sound_known in s.allowed x d e) h.yields;
         outside = h.outside;
       } in
       let j : h.assign.target ≡ 0 + h.place = h.is_target ∙ k ∙ omega arith in

@@ -5,7 +5,7 @@ use Rattle.ar_base.proofs.Standing.{one_cases, one_first, one_rest, one_none, on
 use Rattle.domains.specs.declared.Value.{Value}
 use Rattle.eq_core.specs.Gates.{Operand, Gate, all_of}
 use Rattle.eq_core.specs.Ordered.{AreBelow}
-use Rattle.eq_core.specs.ValuesInside.{IsTrueWhere, Grows, EachTrue}
+use Rattle.eq_core.specs.ValuesInside.{IsTrueWhere, GainsGates, EachTrue}
 use Rattle.eq_core.proofs.Telling.{grows_on, tells_as, tells_opposite, all_tells, all_more}
 use Rattle.eq_build.specs.Entries.{Entry, Term}
 use Rattle.eq_build.specs.Tells.{AreEntries, IsBuilt}
@@ -89,7 +89,7 @@ module _ (set : List ℕ) (P : Value → Type 0) (row : List Entry) (reset : Val
       let os = opposites row in
       let n = none_tell set g P row a.tells in
       let m = all_of g os in
-      let s : Grows g m.gates = all_more g os in
+      let s : GainsGates g m.gates = all_more g os in
       let none : IsTrueWhere set m.gates m.operand ((w : Value) → P w → ⊥) = tells_as
       (λ e w p. let r = a.whole w p in n.true_so e r.0 r.1 (subst P (sym r.2) p))
       (λ h. n.so_true (λ e o p. h e.value p))

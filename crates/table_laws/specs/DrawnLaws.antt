@@ -11,7 +11,7 @@ use Rattle.gts_core.specs.Lawful.{IsLawful}
 use Rattle.mode_trees.specs.Views.{trees_of}
 use Rattle.mode_trees.specs.declared.forests.Forest.{Forest}
 use Rattle.zdd_families.specs.Families.{has}
-use Rattle.zdd_nodes.specs.Nodes.{IsNumber}
+use Rattle.zdd_nodes.specs.Nodes.{IsFamilyNumber}
 use Rattle.eq_core.specs.Gates.{Table}
 use Rattle.firable_families.specs.FirableInside.{IsFirableOf}
 use Rattle.gate_diagrams.specs.Answers.{IsAnswerUpTo}
@@ -37,7 +37,7 @@ DrawnAreFirableUpTo order = (trees : List ModeTree) (table : Table) (drawn : Dra
 
 abbrev pub DrawnAreStoredUpTo : Option ℕ → Type 0
 DrawnAreStoredUpTo order = (trees : List ModeTree) (table : Table) (drawn : Drawn) → IsAnswerUpTo order trees table drawn
-    → IsNumber (family_of drawn).store (family_of drawn).root.n
+    → IsFamilyNumber (family_of drawn).store (family_of drawn).root.n
 
 -- the numbers of ways change nothing in which nodes may be needed
 abbrev pub NodesByNumbersUpTo : Option ℕ → Type 0

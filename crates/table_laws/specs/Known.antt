@@ -10,11 +10,11 @@ use Rattle.ar_meaning.specs.Facts.{PassesConditions, Allows, HasStateValue}
 use Rattle.ar_meaning.specs.Dependence.{Names, IsFlow}
 
 -- the facts that the reading holds
-abbrev pub Holds : {V : Type 0} → (V → Value → Bool) → V → Value → Type 0
-Holds known x v = known x v ≡ true
+abbrev pub ReadingHolds : {V : Type 0} → (V → Value → Bool) → V → Value → Type 0
+ReadingHolds known x v = known x v ≡ true
 
 -- an assignment to the variable that the facts reach yields the value
-pub record Gives {V : Type 0} (net : Net V) (facts : V → Value → Type 0) (x : V) (v : Value) : Type 0 where
+pub record AssignsValue {V : Type 0} (net : Net V) (facts : V → Value → Type 0) (x : V) (v : Value) : Type 0 where
   pub assign : Assign V
   pub is_one : IsOneOf net.assertions assign
   pub is_target : assign.target ≡ x
@@ -31,14 +31,14 @@ pub record HasRounds {V : Type 0} (net : Net V) (known : V → Value → Bool) (
   pub start : (x : V) (v : Value) → IsOneOf block x → reading zero x v ≡ false
   pub allowed : (k : ℕ) (x : V) (v : Value) → IsOneOf block x → reading k x v ≡ true → Allows net x v
   pub sound : (k : ℕ) (x : V) (v : Value) → k < length block → IsOneOf block x → reading (suc k) x v ≡ true
-      → Gives net (Holds (reading k)) x v
+      → AssignsValue net (ReadingHolds (reading k)) x v
   pub whole : (k : ℕ) (x : V) (v : Value) → k < length block → IsOneOf block x → Allows net x v
-      → Gives net (Holds (reading k)) x v → reading (suc k) x v ≡ true
+      → AssignsValue net (ReadingHolds (reading k)) x v → reading (suc k) x v ≡ true
   pub last : (x : V) (v : Value) → IsOneOf block x → reading (length block) x v ≡ known x v
 
 -- what is known in the end: the state's values, and what the rounds of each block come to; a block names itself,
 -- states and blocks before it
-pub record IsKnown {V : Type 0} (net : Net V) (t : List Value) (blocks : List (List V))
+pub record IsKnownInTheEnd {V : Type 0} (net : Net V) (t : List Value) (blocks : List (List V))
     (known : V → Value → Bool) : Type 0 where
   pub given : (x : V) (v : Value) → HasStateValue net t x v → known x v ≡ true
   pub only : (x : V) (v : Value) → known x v ≡ true
@@ -90,9 +90,9 @@ pub record SeesOutside {V : Type 0} (net : Net V) (known : V → Value → Bool)
   pub assign : Assign V
   pub is_one : IsOneOf net.assertions assign
   pub is_target : assign.target ≡ variable.key
-  pub passes : PassesConditions (Holds known) assign.conditions
+  pub passes : PassesConditions (ReadingHolds known) assign.conditions
   pub value : Value
-  pub yields : Yields (Holds known) (out-Expr V assign.value) value
+  pub yields : Yields (ReadingHolds known) (out-Expr V assign.value) value
   pub outside : Contains variable.domain value → ⊥
 
 -- the three conflicts that a table sees

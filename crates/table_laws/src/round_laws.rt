@@ -7,7 +7,7 @@ ghost use Rattle.ar_meaning.specs.Facts.{FactOf};
 ghost use Rattle.ar_meaning.specs.FactsInside.{AreKeyed};
 ghost use Rattle.ar_meaning.specs.Flows.{Flows, Outcome};
 ghost use Rattle.ar_firing.specs.Operands.{HasFault};
-ghost use Rattle.table_laws.specs.Known.{IsKnown, IsConflict, AreOfFlows};
+ghost use Rattle.table_laws.specs.Known.{IsKnownInTheEnd, IsConflict, AreOfFlows};
 ghost use Rattle.table_laws.specs.RoundLaws.{HasTotals};
 
 /// Laws of the rounds of the blocks.
@@ -18,13 +18,13 @@ ghost use Rattle.table_laws.specs.RoundLaws.{HasTotals};
 ///   rounds as a block has flows are enough.
 pub fn laws_of_rounds<V>()
     ensures known_facts { (net : Net V) (t : List Value) (blocks : List (List V)) (known : V → Value → Bool)
-        → IsKnown net t blocks known → (x : V) (v : Value) → known x v ≡ true → FactOf net t x v }
+        → IsKnownInTheEnd net t blocks known → (x : V) (v : Value) → known x v ≡ true → FactOf net t x v }
     ensures fault { (net : Net V) (t : List Value) (blocks : List (List V))
         (known : V → Value → Bool) (o : Outcome)
-        → AreKeyed net → AreOfFlows net blocks → IsKnown net t blocks known → Flows net t o
+        → AreKeyed net → AreOfFlows net blocks → IsKnownInTheEnd net t blocks known → Flows net t o
         → IsConflict net known → HasFault net t }
     ensures flows { (net : Net V) (t : List Value) (blocks : List (List V))
         (known : V → Value → Bool) (o : Outcome)
-        → AreKeyed net → AreOfFlows net blocks → IsKnown net t blocks known → Flows net t o
+        → AreKeyed net → AreOfFlows net blocks → IsKnownInTheEnd net t blocks known → Flows net t o
         → (IsConflict net known → ⊥) → HasTotals net t known }
 {}

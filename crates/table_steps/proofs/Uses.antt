@@ -11,7 +11,7 @@ use Rattle.typed_expr.proofs.Mentioning.{mentions_told}
 use Rattle.ar_meaning.specs.Systems.{Assign, Variable, Net}
 use Rattle.ar_meaning.specs.Dependence.{Tests, in_this, in_later, Names, IsFlow, DependsOn, flow_count}
 use Rattle.flow_blocks.specs.Blocks.{Follow, all_given, next}
-use Rattle.flow_blocks.specs.BlocksInside.{AreBelow}
+use Rattle.flow_blocks.specs.BlocksInside.{AreUsesBelow}
 use Rattle.flow_blocks.proofs.ExistenceLemmas.{some_list}
 use Rattle.table_steps.specs.Steps.{AreBlocks}
 use Rattle.table_steps.proofs.Blocks.{one_flow}
@@ -237,7 +237,7 @@ module _ (net : Net ℕ) where
   pub some_blocks : (blocks : List (List ℕ)) × AreBlocks net blocks
   some_blocks =
       let us = uses_listed in
-      let low : AreBelow (flow_count net.variables) us.items = λ a b m.
+      let low : AreUsesBelow (flow_count net.variables) us.items = λ a b m.
       let d = us.sound (a, b) (contains_one us.items (a, b) m) in
       (flow_below a d.assign.target d.to, flow_below b d.named d.other) in
       let found = some_list (flow_count net.variables) us.items low in

@@ -3,7 +3,7 @@ use Rattle.std.proofs.Common.{◌≡◌, ℕ, List, subst}
 use Rattle.ar_base.specs.Lists.{Along}
 use Rattle.ar_base.proofs.Standing.{stands_one, along_on}
 use Rattle.domains.specs.declared.Value.{Value}
-use Rattle.typed_expr.specs.PairsInside.{turned}
+use Rattle.typed_expr.specs.PairsInside.{turned_pairs}
 use Rattle.typed_expr.specs.declared.expr.Expr.{Expr}
 use Rattle.ar_meaning.specs.Systems.{System}
 use Rattle.ar_meaning.specs.FlatOf.{IsNumber, IsFlatOf}
@@ -22,22 +22,22 @@ use Rattle.table_text.proofs.TableThere.{Same, variables_same, table_there}
 -- two flat systems of one system agree item by item
 module _ {V : Type 0} (things : List V) (sys : System V) (f g : System ℕ) (a : IsFlatOf things sys f)
     (b : IsFlatOf things sys g) where
-  through : (m : ℕ) (v : V) (n : ℕ) → turned (IsNumber things) m v → IsNumber things v n → Same m n
+  through : (m : ℕ) (v : V) (n : ℕ) → turned_pairs (IsNumber things) m v → IsNumber things v n → Same m n
   through m v n p q = a.different.one m n v p q
 
   net_along : Along (Assign_renames Same) f.net.assertions g.net.assertions
   net_along =
-      along_joined (assign_joined (turned (IsNumber things)) (IsNumber things) Same through)
+      along_joined (assign_joined (turned_pairs (IsNumber things)) (IsNumber things) Same through)
       (flat_back things sys f a).net.assertions b.assertions
 
   variables_along : f.net.variables ≡ g.net.variables
   variables_along =
-      variables_same (along_joined (variable_joined (turned (IsNumber things)) (IsNumber things) Same through)
+      variables_same (along_joined (variable_joined (turned_pairs (IsNumber things)) (IsNumber things) Same through)
       (flat_back things sys f a).net.variables b.variables)
 
   observers_along : Along (Expr_renames Same) f.observers g.observers
   observers_along =
-      along_joined (observer_joined (turned (IsNumber things)) (IsNumber things) Same through)
+      along_joined (observer_joined (turned_pairs (IsNumber things)) (IsNumber things) Same through)
       (flat_back things sys f a).observers b.observers
 
 module _ {V : Type 0} (things : List V) (sys : System V) (dropped : List ℕ) (static : IsKeyedStatic sys dropped) where

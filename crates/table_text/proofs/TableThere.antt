@@ -5,7 +5,7 @@ use Rattle.ar_base.specs.Lists as l
 use Rattle.ar_base.proofs.Standing.{along_on, one_here}
 use Rattle.ar_base.proofs.Items.{along_append}
 use Rattle.domains.specs.declared.Value.{Value}
-use Rattle.typed_expr.specs.PairsInside.{turned}
+use Rattle.typed_expr.specs.PairsInside.{turned_pairs}
 use Rattle.typed_expr.specs.Mentions.{Mentions}
 use Rattle.typed_expr.specs.Renames.{Renames}
 use Rattle.typed_expr.specs.declared.expr.Expr.{Expr, out-Expr}
@@ -184,7 +184,7 @@ module _ (a b : Net ℕ) (vars : a.variables ≡ b.variables) where
 
 module _ (a b : Net ℕ) (vars : a.variables ≡ b.variables)
     (along : Along (Assign_renames Same) a.assertions b.assertions) where
-  back : Along (Assign_renames (turned Same)) b.assertions a.assertions
+  back : Along (Assign_renames (turned_pairs Same)) b.assertions a.assertions
   back = along_turned (λ u v p. assign_turned Same u v p) along
 
   blocks_there : (blocks : List (List ℕ)) → AreBlocks a blocks → AreBlocks b blocks
@@ -192,7 +192,7 @@ module _ (a b : Net ℕ) (vars : a.variables ≡ b.variables)
     uses = h.uses;
     are_uses = record {
       only = λ m n o. depends_there a b vars Same (λ x y e. e) along m n (h.are_uses.only m n o);
-      all = λ m n d. h.are_uses.all m n (depends_there b a (sym vars) (turned Same) (λ x y e. sym e) back m n d);
+      all = λ m n d. h.are_uses.all m n (depends_there b a (sym vars) (turned_pairs Same) (λ x y e. sym e) back m n d);
     };
     classes = h.classes;
     follow = subst (λ (z : List (Variable ℕ)). Follow (flow_count z) h.uses [] h.classes) vars h.follow;
@@ -227,7 +227,7 @@ module _ (a b : Net ℕ) (vars : a.variables ≡ b.variables)
   leaves_there x (l.one_and {a = u} {b = v} p ps) (s.may_not m d) =
       let r = leaves_there x ps d in
       let never : MayLeave b v x → ⊥ = λ k. m
-      (leave_there b a (sym vars) (turned Same) (λ x y e. sym e) back v u (assign_turned Same u v p) x k) in
+      (leave_there b a (sym vars) (turned_pairs Same) (λ x y e. sym e) back v u (assign_turned Same u v p) x k) in
       (r.0, s.may_not never r.1, r.2)
 
   all_leave_there : {n : ℕ} {xs : List (Variable ℕ)} {ys : List (Variable ℕ × Assign ℕ)} → AllMayLeave a n xs ys

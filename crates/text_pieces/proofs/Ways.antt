@@ -14,12 +14,12 @@ use Rattle.gts_core.specs.declared.system.Event.{Event}
 use Rattle.gts_core.specs.declared.system.GtsParts.{GtsParts}
 use Rattle.gts_core.specs.declared.system.Way.{Way}
 use Rattle.gts_flatten.specs.Flat.{naming_of_parts}
-use Rattle.text_pieces.specs.WayLabels.{label_found, label_of, ways_found, way_label}
+use Rattle.text_pieces.specs.WayLabels.{way_label_found, numbered_label, ways_found, way_label}
 
 -- a way of the system with its label and its number
 pub record IsNamed (p : GtsParts) (sys : s.System ℕ) (n : ℕ) : Type 0 where
   pub way : s.Way ℕ
-  pub is_way : IsWay sys (label_of p n) way
+  pub is_way : IsWay sys (numbered_label p n) way
   pub is_at : IsWayAt p n way
 
 -- events have as many ways in the system as in its parts
@@ -39,8 +39,8 @@ pub label_read : (p : GtsParts) (n : ℕ) (w : Way) → Stands p.ways.items n w
     → way_text (text_at (naming_of_parts p).events w.event.n) (ways_found (slice_get p.events.items w.event.n))
     (w.number - 1) ≡ way_label p n
 label_read p n w h =
-    ap (λ (o : Option Way). way_text (text_at (naming_of_parts p).events (label_found o).event)
-    (ways_found (slice_get p.events.items (label_found o).event)) (label_found o).way)
+    ap (λ (o : Option Way). way_text (text_at (naming_of_parts p).events (way_label_found o).event)
+    (ways_found (slice_get p.events.items (way_label_found o).event)) (way_label_found o).way)
     (sym h)
 
 -- a way that is read has a number from 1
@@ -55,9 +55,9 @@ place_read p n a h = ap optional_place_text (sym (stands_map (λ (z : Assign). z
 
 module _ (p : GtsParts) (sys : s.System ℕ) (views : Views p sys) where
   -- the canonical label of a way
-  pub label_alike : (n : ℕ) → label_text (naming_of_parts p) sys (label_of p n) ≡ way_label p n
+  pub label_alike : (n : ℕ) → label_text (naming_of_parts p) sys (numbered_label p n) ≡ way_label p n
   label_alike n =
-      let k : Label = label_of p n in
+      let k : Label = numbered_label p n in
       ap (λ z. way_text (text_at (naming_of_parts p).events k.event) z k.way)
       (sym (ways_alike p views.events k.event))
 
@@ -72,8 +72,8 @@ module _ (p : GtsParts) (sys : s.System ℕ) (views : Views p sys) where
       let own : IsOwn p n w = sound.own_ways n w found.1 in
       let there = along_on p.events.items sys.events views.events w.event.n own.event own.stands in
       let way = along_on own.event.ways.items there.0.ways there.2.ways own.place own.way own.there in
-      let is : label_of p n ≡ record { event = w.event.n; way = own.place } =
-      ap label_found found.1 ∙ ap (at_event w.event.n) (omega (arith, own.number)) in
+      let is : numbered_label p n ≡ record { event = w.event.n; way = own.place } =
+      ap way_label_found found.1 ∙ ap (at_event w.event.n) (omega (arith, own.number)) in
       record {
         way = way.0;
         is_way = subst (λ (k : Label). IsWay sys k way.0) (sym is)

@@ -2,7 +2,7 @@
 
 ghost use Rattle.std.specs.Prelude.{◌++◌, codes};
 ghost use Rattle.ar_base.specs.Texts.{text_at};
-ghost use Rattle.ar_io.specs.WritingInside.{Writes};
+ghost use Rattle.ar_io.specs.Handing.{Writes};
 ghost use Rattle.ar_meaning.specs.TraceText.{flow_fault_text};
 ghost use Rattle.flow_propagate.specs.Answers.{fault_of};
 ghost use Rattle.gts_flatten.specs.Flat.{naming_of_parts};

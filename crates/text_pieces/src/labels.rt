@@ -2,7 +2,7 @@
 
 ghost use Rattle.std.specs.Prelude.{◌<◌, ◌-◌, length, slice_get};
 ghost use Rattle.ar_base.specs.Texts.{text_at};
-ghost use Rattle.ar_io.specs.WritingInside.{Writes};
+ghost use Rattle.ar_io.specs.Handing.{Writes};
 ghost use Rattle.ar_meaning.specs.TraceText.{way_text};
 ghost use Rattle.gts_flatten.specs.Flat.{naming_of_parts};
 ghost use Rattle.text_pieces.specs.WayLabels.{way_label, ways_found};

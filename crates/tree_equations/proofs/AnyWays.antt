@@ -7,7 +7,7 @@ use Rattle.typed_expr.specs.declared.expr.Expr.{Expr}
 use Rattle.ar_meaning.specs.Systems as s
 use Rattle.eq_core.specs.Gates.{Operand, EventIs, Gate, Table, all_of}
 use Rattle.eq_build.specs.Entries.{Entry, Built, with_entry}
-use Rattle.mode_trees.specs.Views.{row_of, tree_of}
+use Rattle.mode_trees.specs.Views.{edge_row, tree_of}
 use Rattle.mode_trees.specs.declared.forests.Edge.{Edge}
 use Rattle.mode_trees.specs.declared.forests.ModeTree.{ModeTree}
 use Rattle.table_steps.specs.Steps.{Reading, Threads, Has_modes, not_left, entered, modes_of, in_order, modes_at, first_reading, All_rounds}
@@ -16,7 +16,7 @@ use Rattle.table_steps.specs.Table.{IsTable}
 use Rattle.tree_equations.proofs.Determined.{modes_one}
 
 module _ (f k : ℕ → ℕ) where
-  left_any : (m : Value) (es : List Edge) → not_left m (map (row_of f) es) ≡ not_left m (map (row_of k) es)
+  left_any : (m : Value) (es : List Edge) → not_left m (map (edge_row f) es) ≡ not_left m (map (edge_row k) es)
   left_any m [] = refl
   left_any m (e ∷ es) = ap (λ z. if is_same e.from m then EventIs e.event.n false ∷ z else z) (left_any m es)
 
@@ -35,19 +35,19 @@ module _ (f k : ℕ → ℕ) where
       (h (all_of g ps).gates)
 
   entered_any : (all rest : List Edge) (g : List Gate)
-      → entered (map (row_of f) all) (map (row_of f) rest) g ≡ entered (map (row_of k) all) (map (row_of k) rest) g
+      → entered (map (edge_row f) all) (map (edge_row f) rest) g ≡ entered (map (edge_row k) all) (map (edge_row k) rest) g
   entered_any all [] g = refl
   entered_any all (r ∷ rs) g =
-      rest_any r.to g (EventIs r.event.n true ∷ not_left r.to (map (row_of f) all))
-      (EventIs r.event.n true ∷ not_left r.to (map (row_of k) all)) (entered (map (row_of f) all) (map (row_of f) rs))
-      (entered (map (row_of k) all) (map (row_of k) rs)) (ap (λ z. EventIs r.event.n true ∷ z) (left_any r.to all))
+      rest_any r.to g (EventIs r.event.n true ∷ not_left r.to (map (edge_row f) all))
+      (EventIs r.event.n true ∷ not_left r.to (map (edge_row k) all)) (entered (map (edge_row f) all) (map (edge_row f) rs))
+      (entered (map (edge_row k) all) (map (edge_row k) rs)) (ap (λ z. EventIs r.event.n true ∷ z) (left_any r.to all))
       (entered_any all rs)
 
   modes_any : (tree : ModeTree) (g : List Gate) → modes_of (tree_of f tree) g ≡ modes_of (tree_of k tree) g
   modes_any tree g =
       let es = tree.edges.items in
-      rest_any tree.first g (not_left tree.first (map (row_of f) es)) (not_left tree.first (map (row_of k) es))
-      (entered (map (row_of f) es) (map (row_of f) es)) (entered (map (row_of k) es) (map (row_of k) es))
+      rest_any tree.first g (not_left tree.first (map (edge_row f) es)) (not_left tree.first (map (edge_row k) es))
+      (entered (map (edge_row f) es) (map (edge_row f) es)) (entered (map (edge_row k) es) (map (edge_row k) es))
       (left_any tree.first es) (entered_any es es)
 
   has_any : (g : List Gate) (tree : ModeTree) (y : List Entry) (h : List Gate) → Has_modes g (tree_of f tree) y h

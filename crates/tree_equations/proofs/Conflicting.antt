@@ -5,7 +5,7 @@ use Rattle.typed_expr.specs.declared.expr.Expr.{Expr, out-Expr}
 use Rattle.ar_meaning.specs.Systems as s
 use Rattle.ar_firing.specs.Forest as firing
 use Rattle.eq_core.specs.Gates.{Operand, Gate, Made, Table, any_of}
-use Rattle.eq_core.specs.ValuesInside.{Grows}
+use Rattle.eq_core.specs.ValuesInside.{GainsGates}
 use Rattle.eq_core.proofs.Telling.{grows_on, any_more}
 use Rattle.eq_build.specs.Entries.{Entry, operand_for}
 use Rattle.eq_build.specs.Builds.{Builds}
@@ -15,7 +15,7 @@ use Rattle.table_steps.specs.Steps.{Reading, Threads, Has_modes, first_reading, 
 use Rattle.table_steps.specs.Table.{IsTable, flow_numbers}
 use Rattle.table_steps.proofs.Blocks.{blocks_same}
 use Rattle.tree_equations.specs.Answers.{TooMany}
-use Rattle.tree_equations.specs.Seen.{Conflicts, Conflicting}
+use Rattle.tree_equations.specs.Seen.{GivesConflicts, Conflicting}
 use Rattle.tree_equations.proofs.Determined.{threads_one, modes_one, two_one, out_one, total_one, broken_one, all_rounds_one, leaving_one}
 use Rattle.tree_equations.proofs.Rising.{threads_more, out_more, total_more, broken_more, two_more, all_rounds_more}
 
@@ -27,21 +27,21 @@ module _ {A B : Type 0} (R : List Gate → A → B → List Gate → Type 0) whe
       subst (λ (z : List A). Threads R h z os k) e (subst (λ (z : List Gate). Threads R z xs os k) f d)
 
 module _ (net : s.Net ℕ) (known : Reading) (g : List Gate) where
-  module _ (total : Reading) (conflict : Operand) (h : List Gate) (c : Conflicts net known g total conflict h) where
-    from_broken : Grows c.after_broken h
-    from_broken = subst (λ (z : Made). Grows c.after_broken z.gates) c.is_conflict
+  module _ (total : Reading) (conflict : Operand) (h : List Gate) (c : GivesConflicts net known g total conflict h) where
+    from_broken : GainsGates c.after_broken h
+    from_broken = subst (λ (z : Made). GainsGates c.after_broken z.gates) c.is_conflict
         (any_more c.after_broken (c.twos ++ (c.outs ++ c.broken)))
 
-    from_totals : Grows c.after_totals h
+    from_totals : GainsGates c.after_totals h
     from_totals = grows_on (threads_more (Sees_broken total) (broken_more total) c.sees_broken) from_broken
 
-    from_outs : Grows c.after_outs h
+    from_outs : GainsGates c.after_outs h
     from_outs = grows_on (threads_more (Totals_of known) (total_more known) c.has_totals) from_totals
 
-    from_twos : Grows c.after_twos h
+    from_twos : GainsGates c.after_twos h
     from_twos = grows_on (threads_more (Sees_outside known) (out_more known) c.sees_outs) from_outs
 
-    pub conflict_grows : Grows g h
+    pub conflict_grows : GainsGates g h
     conflict_grows = grows_on (threads_more (Sees_two known) (two_more known) c.sees_twos) from_twos
 
   pub conflict_first : TooMany (λ os h. Threads (Sees_two known) g (flow_numbers net) os h)
@@ -50,7 +50,7 @@ module _ (net : s.Net ℕ) (known : Reading) (g : List Gate) where
 
   module _ (twos : List Operand) (g2 : List Gate) (d2 : Threads (Sees_two known) g (flow_numbers net) twos g2)
       (leaving : List (s.Variable ℕ × s.Assign ℕ)) (all : AllMayLeave net 0 net.variables leaving) where
-    outs_there : (r : Reading × Operand) (h : List Gate) (c : Conflicts net known g r.0 r.1 h)
+    outs_there : (r : Reading × Operand) (h : List Gate) (c : GivesConflicts net known g r.0 r.1 h)
         → Threads (Sees_outside known) g2 leaving c.outs c.after_outs
     outs_there r h c =
         thread_as (Sees_outside known) c.leaving leaving c.after_twos g2 c.outs c.after_outs
@@ -61,7 +61,7 @@ module _ (net : s.Net ℕ) (known : Reading) (g : List Gate) where
     conflict_second n r h c = longer_on (from_outs r.0 r.1 h c) (n c.outs c.after_outs (outs_there r h c))
 
     module _ (outs : List Operand) (g3 : List Gate) (d3 : Threads (Sees_outside known) g2 leaving outs g3) where
-      totals_there : (r : Reading × Operand) (h : List Gate) (c : Conflicts net known g r.0 r.1 h)
+      totals_there : (r : Reading × Operand) (h : List Gate) (c : GivesConflicts net known g r.0 r.1 h)
           → Threads (Totals_of known) g3 (flows_from 0 net.variables) c.totals c.after_totals
       totals_there r h c =
           thread_as (Totals_of known) (flows_from 0 net.variables) (flows_from 0 net.variables) c.after_outs g3 c.totals
@@ -74,7 +74,7 @@ module _ (net : s.Net ℕ) (known : Reading) (g : List Gate) where
       module _ (totals : List (List Entry)) (g4 : List Gate)
           (d4 : Threads (Totals_of known) g3 (flows_from 0 net.variables) totals g4) (total : Reading)
           (is : total ≡ updated known (flow_numbers net) totals) where
-        broken_there : (r : Reading × Operand) (h : List Gate) (c : Conflicts net known g r.0 r.1 h)
+        broken_there : (r : Reading × Operand) (h : List Gate) (c : GivesConflicts net known g r.0 r.1 h)
             → Threads (Sees_broken total) g4 net.assertions c.broken c.after_broken
         broken_there r h c =
             let same = threads_one (Totals_of known) (total_one known) (totals_there r h c) d4 in
@@ -165,18 +165,18 @@ module _ (net : s.Net ℕ) (trees : List firing.ModeTree) (observer : Expr ℕ) 
       is_conflict = w.conflict;
     }
 
-    to_end : {h : List Gate} → Grows h w.seen.gates → most_gates < length h → most_gates < length table.gates
+    to_end : {h : List Gate} → GainsGates h w.seen.gates → most_gates < length h → most_gates < length table.gates
     to_end f l = subst (λ (z : List Gate). most_gates < length z) (sym w.gates) (longer_on f l)
 
-    after_conflict : Grows w.after_conflict w.seen.gates
+    after_conflict : GainsGates w.after_conflict w.seen.gates
     after_conflict = builds_more w.observed
 
-    after_rounds : Grows w.after_rounds w.seen.gates
+    after_rounds : GainsGates w.after_rounds w.seen.gates
     after_rounds = grows_on (conflict_grows net w.known w.after_rounds w.total table.conflict w.after_conflict
         conflicts_of)
         after_conflict
 
-    after_modes : Grows w.after_modes w.seen.gates
+    after_modes : GainsGates w.after_modes w.seen.gates
     after_modes = grows_on (all_rounds_more net w.has_rounds) after_rounds
 
   pub table_first : TooMany (λ ess h. Threads Has_modes [] trees ess h) → Needs

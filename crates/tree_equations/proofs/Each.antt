@@ -4,10 +4,10 @@ use Rattle.std.specs.Result.{IsErrAnd}
 use Rattle.std.proofs.lemmas.List.{map-append}
 use Rattle.ar_base.proofs.Items.{none_left}
 use Rattle.eq_core.specs.Gates.{Gate}
-use Rattle.eq_core.specs.ValuesInside.{Grows}
+use Rattle.eq_core.specs.ValuesInside.{GainsGates}
 use Rattle.eq_core.specs.declared.joints.Gate as flat
 use Rattle.eq_build.specs.BuildsInside.{most_gates}
-use Rattle.eq_build.specs.Views.{Stops}
+use Rattle.eq_build.specs.Views.{StopsBuilding}
 use Rattle.eq_build.specs.declared.entries.BuildFault.{BuildFault}
 use Rattle.eq_build.proofs.Stopping.{stops_up, passed_on}
 use Rattle.eq_build.proofs.Threading.{SoFar, Parted, nothing_yet, one_further, operand_stops, all_built}
@@ -29,7 +29,7 @@ all_as_is (x ∷ xs) = ap (λ z. x ∷ z) (all_as_is xs)
 -- A list of things is seen by `each`, and what comes out by `view`.
 module _ {A B X C : Type 0} (each : X → A) (view : C → B) (R : List Gate → A → B → List Gate → Type 0)
     (one : (g h k : List Gate) (x : A) (y z : B) → R g x y h → R g x z k → AreOne y z h k)
-    (more : (g h : List Gate) (x : A) (y : B) → R g x y h → Grows g h) where
+    (more : (g h : List Gate) (x : A) (y : B) → R g x y h → GainsGates g h) where
   abbrev One : List Gate → X → B → List Gate → Type 0
   One g x y h = R g (each x) y h
 
@@ -51,7 +51,7 @@ module _ {A B X C : Type 0} (each : X → A) (view : C → B) (R : List Gate →
   same : (g h k : List Gate) (x : X) (y z : B) → One g x y h → One g x z k → h ≡ k
   same g h k x y z d e = (one g h k (each x) y z d e).1
 
-  grows : (g k : List Gate) (xs : List X) (ys : List B) → All g xs ys k → Grows g k
+  grows : (g k : List Gate) (xs : List X) (ys : List B) → All g xs ys k → GainsGates g k
   grows g k xs ys d = threads_more R more d
 
   pub each_start : (g : List Gate) (xs : List X) (out : List C) → out ≡ [] → Sofar g xs 0 out g
@@ -69,7 +69,7 @@ module _ {A B X C : Type 0} (each : X → A) (view : C → B) (R : List Gate →
   pub each_stops : (g h : List Gate) (xs : List X) (i : ℕ) (x : X) (old : List C)
       (r : Result (Vec C Global) BuildFault) (f : BuildFault) (gates : List flat.Gate)
       → drop i xs ≡ x ∷ drop (suc i) xs → Sofar g xs i old h → IsErrAnd r (λ z. z ≡ f)
-      → Stops f (TooMany (λ (y : B) (k : List Gate). One h x y k))
+      → StopsBuilding f (TooMany (λ (y : B) (k : List Gate). One h x y k))
       → Gives (λ (v : Vec C Global). map view v.items) (λ ys k. All g xs ys k) r gates
   each_stops g h xs i x old r f gates at s w stops =
       passed_on (λ (v : Vec C Global) (k : List Gate). All g xs (map view v.items) k)

@@ -14,7 +14,7 @@ use Rattle.ar_base.proofs.Standing.{stands_map, stands_map_back}
 use Rattle.eq_build.specs.BuildsInside.{most_gates}
 use Rattle.eq_build.specs.Views.{entry_of, lists_in}
 use Rattle.mode_trees.specs.declared.forests.ModeTree.{ModeTree as TreeOfCode}
-use Rattle.mode_trees.specs.Views.{row_of}
+use Rattle.mode_trees.specs.Views.{edge_row}
 use Rattle.tree_equations.specs.Answers.{Entries, row_in, tree_in, plain}
 
 -- each term is of one operand
@@ -173,6 +173,6 @@ rows_few g h trees rows d small n row s =
     let back = stands_map_back tree_in trees n r.tree r.stands in
     let few = small back.0 (record { place = n; stands = back.1 }) in
     let long = length-map row.items entry_of in
-    let edges = sym (ap (λ (z : ModeTree). length z.edges) back.2) ∙ length-map back.0.edges.items (row_of plain) in
+    let edges = sym (ap (λ (z : ModeTree). length z.edges) back.2) ∙ length-map back.0.edges.items (edge_row plain) in
     let f = r.few in
     omega (arith, few, long, edges, f)

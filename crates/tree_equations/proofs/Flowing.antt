@@ -11,7 +11,7 @@ use Rattle.std.proofs.Common.{◌++◌, append-nil, length-append}
 use Rattle.std.proofs.lemmas.Bool.{cases_lt}
 use Rattle.std.proofs.lemmas.List.{nil_from_length}
 use Rattle.eq_core.specs.Gates.{Operand, Gate}
-use Rattle.eq_core.specs.ValuesInside.{Grows}
+use Rattle.eq_core.specs.ValuesInside.{GainsGates}
 use Rattle.eq_build.specs.Entries.{Entry, entries_for}
 use Rattle.eq_build.specs.Builds.{Builds}
 use Rattle.eq_build.specs.BuildsInside.{most_gates}
@@ -167,7 +167,7 @@ module _ (net : Net ℕ) (block : List ℕ) (n : ℕ) (g : List Gate) (first : R
   ]
 
 -- lists of gates of one length, of which one has only more gates, are one
-same_gates : (h k : List Gate) → Grows h k → length k ≡ length h → k ≡ h
+same_gates : (h k : List Gate) → GainsGates h k → length k ≡ length h → k ≡ h
 same_gates h k w l =
     let e = ap length w.is ∙ length-append h w.more in
     let none : length w.more ≡ 0 = omega (arith, e, l) in

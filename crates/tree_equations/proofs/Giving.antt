@@ -5,19 +5,19 @@ use Rattle.ar_base.specs.Lists.{Along}
 use Rattle.ar_base.specs.Lists as l
 use Rattle.ar_base.specs.Numbers.{VarId}
 use Rattle.domains.specs.declared.Value.TheVariants.{Truth}
-use Rattle.typed_expr.specs.PairsInside.{turned}
+use Rattle.typed_expr.specs.PairsInside.{turned_pairs}
 use Rattle.typed_expr.proofs.Renaming.{renames_turned}
 use Rattle.typed_expr.specs.declared.expr.Expr.{Expr, out-Expr}
 use Rattle.ar_meaning.specs.Systems.{Assign}
 use Rattle.eq_core.specs.Gates.{Operand, Gate, Made}
-use Rattle.eq_core.specs.ValuesInside.{Grows}
+use Rattle.eq_core.specs.ValuesInside.{GainsGates}
 use Rattle.eq_core.specs.Views.{operand_of}
 use Rattle.eq_core.specs.declared.joints.Operand as sign
 use Rattle.eq_core.specs.declared.joints.Gate as flat
 use Rattle.eq_build.specs.Entries.{Entry, Built, operand_for}
 use Rattle.eq_build.specs.Builds.{Builds}
 use Rattle.eq_build.specs.BuildsInside.{NeedsMore, most_gates}
-use Rattle.eq_build.specs.Views.{row_of, row_at, built_of, Stops, MakesEntries, MakesOperand}
+use Rattle.eq_build.specs.Views.{row_read, row_at, built_of, StopsBuilding, MakesEntries, MakesOperand}
 use Rattle.eq_build.specs.declared.entries.BuildFault.{BuildFault}
 use Rattle.eq_build.proofs.Growing.{builds_more}
 use Rattle.eq_build.proofs.Renaming.{builds_renamed}
@@ -48,7 +48,7 @@ operand_gives m S (Err f) gates d one h =
 
 -- a fault that is passed on
 pub gives_on : {A B : Type 0} (view : A → B) (S : B → List Gate → Type 0) (N : Type 0) (r : Result A BuildFault)
-    (f : BuildFault) (gates : List flat.Gate) → (N → TooMany S) → IsErrAnd r (λ z. z ≡ f) → Stops f N
+    (f : BuildFault) (gates : List flat.Gate) → (N → TooMany S) → IsErrAnd r (λ z. z ≡ f) → StopsBuilding f N
     → Gives view S r gates
 gives_on view S N r f gates up w s = passed_on (λ a h. S (view a) h) (TooMany S) r f gates w (stops_up f up s)
 
@@ -63,21 +63,21 @@ gives_as view other S T (Err f) gates on back m =
 
 -- what is built over numbers of variables is built over plain numbers
 module _ (rows : List Entries) (e : Expr VarId) where
-  built_there : (g : List Gate) (b : Built) → Builds (row_of rows) g (out-Expr VarId e) b
+  built_there : (g : List Gate) (b : Built) → Builds (row_read rows) g (out-Expr VarId e) b
       → Builds (row_at rows) g (out-Expr ℕ (numbered e)) b
   built_there g b d =
-      builds_renamed IsNumber (row_of rows) (row_at rows) (λ x n i. ap (row_at rows) i) (renames_numbered e) d
+      builds_renamed IsNumber (row_read rows) (row_at rows) (λ x n i. ap (row_at rows) i) (renames_numbered e) d
 
   built_back : (g : List Gate) (b : Built) → Builds (row_at rows) g (out-Expr ℕ (numbered e)) b
-      → Builds (row_of rows) g (out-Expr VarId e) b
+      → Builds (row_read rows) g (out-Expr VarId e) b
   built_back g b d =
-      builds_renamed (turned IsNumber) (row_at rows) (row_of rows) (λ n x i. sym (ap (row_at rows) i))
+      builds_renamed (turned_pairs IsNumber) (row_at rows) (row_read rows) (λ n x i. sym (ap (row_at rows) i))
       (renames_turned IsNumber (renames_numbered e)) d
 
   pub built_gives : (g : List Gate) (r : Result Entries BuildFault) (gates : List flat.Gate)
-      → IfOk r (λ (xs : Entries). Builds (row_of rows) g (out-Expr VarId e) (built_of xs.items gates))
+      → IfOk r (λ (xs : Entries). Builds (row_read rows) g (out-Expr VarId e) (built_of xs.items gates))
       → OnOk r (length gates ≤ most_gates)
-      → IfErr r (λ f. Stops f (NeedsMore (row_of rows) g (out-Expr VarId e)))
+      → IfErr r (λ f. StopsBuilding f (NeedsMore (row_read rows) g (out-Expr VarId e)))
       → GivesBuilt (row_at rows) g (numbered e) r gates
   built_gives g (Ok xs) gates d few n = (built_there g _ d, few)
   built_gives g (Err f) gates d few n =
@@ -98,7 +98,7 @@ module _ (read : Reading) where
         ap (λ (w : Built). w.gates) s,
       )
 
-  pub tests_more : (g h : List Gate) (c : Expr ℕ × Bool) (y : Operand) → Tests read g c y h → Grows g h
+  pub tests_more : (g h : List Gate) (c : Expr ℕ × Bool) (y : Operand) → Tests read g c y h → GainsGates g h
   tests_more g h c y d = builds_more d.builds
 
   pub tests_on : {g h : List Gate} {cs : List (Expr ℕ × Bool)} {os : List Operand} → Threads (Tests read) g cs os h

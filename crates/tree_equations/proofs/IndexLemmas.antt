@@ -20,7 +20,7 @@ use Rattle.gts_core.specs.declared.system.GtsParts.{GtsParts}
 use Rattle.flow_propagate.specs.Plan as plan
 use Rattle.table_steps.specs.Steps.{flows_from, AreBlocks}
 use Rattle.tree_equations.specs.Index.{to_target, AreNumbersOf, AreByTarget, AreFlows, AreUnder}
-use Rattle.tree_equations.specs.Blocks.{ArePlaced, ArePlacedBlocks}
+use Rattle.tree_equations.specs.Blocks.{StandAtPlaces, ArePlacedBlocks}
 
 pub along_as : {A B : Type 0} (R S : A → B → Type 0) → ((x : A) (y : B) → R x y → S x y) → {xs : List A} {ys : List B}
     → Along R xs ys → Along S xs ys
@@ -270,14 +270,14 @@ flow_place (z ∷ ys) (suc i) (suc j) x y st su f g e =
 
 -- the blocks by numbers are those of the net
 pub are_blocks : (p : GtsParts) (flows : List ℕ) (classes blocks : List (List ℕ))
-    → AreFlows p.variables.items flows (flows_from 0 (net_of p).variables) → plan.AreBlocks p classes
+    → AreFlows p.variables.items flows (flows_from 0 (net_of p).variables) → plan.AreFlowClasses p classes
     → ArePlacedBlocks flows classes blocks → AreBlocks (net_of p) blocks
 are_blocks p flows classes blocks are c placed = record {
   uses = c.uses;
   are_uses = c.are;
   classes = classes;
   follow = c.follow;
-  are = along_as (ArePlaced flows) (Along (λ (k n : ℕ). IsFlow (net_of p) k n))
+  are = along_as (StandAtPlaces flows) (Along (λ (k n : ℕ). IsFlow (net_of p) k n))
       (λ x y d. along_as (λ (k n : ℕ). Stands flows k n) (λ (k n : ℕ). IsFlow (net_of p) k n) (is_flow p flows are) d)
       placed;
 }

@@ -5,7 +5,7 @@ use Rattle.ar_base.specs.Lists.{Stands}
 use Rattle.domains.specs.declared.Value.{Value}
 use Rattle.typed_expr.specs.declared.expr.Expr.{Expr}
 use Rattle.eq_core.specs.Gates.{Table}
-use Rattle.eq_build.specs.Views.{Stops}
+use Rattle.eq_build.specs.Views.{StopsBuilding}
 use Rattle.eq_build.specs.declared.entries.BuildFault.{BuildFault}
 use Rattle.eq_build.proofs.Stopping.{stops_up}
 use Rattle.gts_core.specs.View.{net_of, numbered}
@@ -15,7 +15,7 @@ use Rattle.mode_trees.specs.Views.{number_in}
 use Rattle.mode_trees.specs.declared.forests.Forest.{Forest}
 use Rattle.table_steps.specs.Table.{IsTable}
 use Rattle.tree_equations.specs.Answers.{plain, trees_in}
-use Rattle.tree_equations.specs.Gives.{AtObserver, IsTableOf, NeedsTooMany}
+use Rattle.tree_equations.specs.Gives.{AtObserver, IsTableOfParts, NeedsTooMany}
 use Rattle.tree_equations.proofs.AnyWays.{table_any}
 use Rattle.tree_equations.proofs.Conflicting.{Needs}
 
@@ -45,14 +45,14 @@ module _ (p q : GtsParts) (same : p ≡ q) (forest : Forest) (wanted : Value) (n
 
     -- the table of the observer's expression
     pub one_table : (table : Table) → IsTable (net_of p) (trees_in forest.trees.items) (numbered o.value) wanted table
-        → AtObserver (slice_get q.observers.items n) (IsTableOf q forest wanted table)
+        → AtObserver (slice_get q.observers.items n) (IsTableOfParts q forest wanted table)
     one_table table w =
-        subst (λ (z : GtsParts). AtObserver (slice_get z.observers.items n) (IsTableOf z forest wanted table)) same
-        (subst (λ (z : Option Observer). AtObserver z (IsTableOf p forest wanted table)) (sym st)
+        subst (λ (z : GtsParts). AtObserver (slice_get z.observers.items n) (IsTableOfParts z forest wanted table)) same
+        (subst (λ (z : Option Observer). AtObserver z (IsTableOfParts p forest wanted table)) (sym st)
         (table_any plain (number_in p) (net_of p) forest.trees.items (numbered o.value) wanted table w))
 
 -- a fault that is passed on
 pub err_on : {A : Type 0} (N M : Type 0) (r : Result A BuildFault) (f : BuildFault) → (N → M) → IsErrAnd r (λ z. z ≡ f)
-    → Stops f N → IfErr r (λ fault. Stops fault M)
+    → StopsBuilding f N → IfErr r (λ fault. StopsBuilding fault M)
 err_on N M (Ok a) f up w s = tt
-err_on N M (Err e) f up w s = subst (λ z. Stops z M) (sym w) (stops_up f up s)
+err_on N M (Err e) f up w s = subst (λ z. StopsBuilding z M) (sym w) (stops_up f up s)

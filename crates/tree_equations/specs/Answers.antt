@@ -11,11 +11,11 @@ use Rattle.eq_core.specs.declared.joints.Operand as sign
 use Rattle.eq_build.specs.Entries as e
 use Rattle.eq_build.specs.Builds.{Builds}
 use Rattle.eq_build.specs.BuildsInside.{most_gates}
-use Rattle.eq_build.specs.Views.{entries_in, lists_in, operands_in, row_at, Makes}
+use Rattle.eq_build.specs.Views.{entries_in, lists_in, operands_in, row_at, BuildsOrFails}
 use Rattle.eq_build.specs.declared.entries.Entry.{Entry}
 use Rattle.eq_build.specs.declared.entries.BuildFault.{BuildFault}
 use Rattle.gts_core.specs.declared.system.Variable.{Variable}
-use Rattle.mode_trees.specs.Views.{row_of, tree_of}
+use Rattle.mode_trees.specs.Views.{edge_row, tree_of}
 use Rattle.mode_trees.specs.declared.forests.Edge.{Edge}
 use Rattle.mode_trees.specs.declared.forests.ModeTree.{ModeTree}
 use Rattle.table_steps.specs.Steps.{Reading, Threads, Builds_assign}
@@ -27,7 +27,7 @@ TooMany {B} done = (b : B) (h : List Gate) → done b h → most_gates < length 
 
 -- what is done, as the definitions see it, or a fault
 abbrev pub Gives : {A B : Type 0} → (A → B) → (B → List Gate → Type 0) → Result A BuildFault → List flat.Gate → Type 0
-Gives view done = Makes (λ a h. done (view a) h) (TooMany done)
+Gives view done = BuildsOrFails (λ a h. done (view a) h) (TooMany done)
 
 -- lists of the code
 abbrev pub Entries : Type 0
@@ -47,7 +47,7 @@ abbrev pub plain : ℕ → ℕ
 plain n = n
 
 abbrev pub edges_in : List Edge → List firing.Row
-edges_in edges = map (row_of plain) edges
+edges_in edges = map (edge_row plain) edges
 
 abbrev pub tree_in : ModeTree → firing.ModeTree
 tree_in tree = tree_of plain tree
@@ -65,11 +65,11 @@ abbrev pub GivesBuilt : Reading → List Gate → Expr ℕ → Result Entries Bu
 GivesBuilt read g e = Gives row_in (λ es h. Builds read g (out-Expr ℕ e) (record { entries = es; gates = h }))
 
 -- what an assignment's conditions and expression come to, without the gates
-abbrev pub parts_of : BuiltAssign → List Operand × List e.Entry
-parts_of r = (signs_in r.conditions, row_in r.entries)
+abbrev pub assignment_parts : BuiltAssign → List Operand × List e.Entry
+assignment_parts r = (signs_in r.conditions, row_in r.entries)
 
 abbrev pub GivesAssign : Reading → List Gate → s.Assign ℕ → Result BuiltAssign BuildFault → List flat.Gate → Type 0
-GivesAssign read g a = Gives parts_of (λ r h. Builds_assign read g a
+GivesAssign read g a = Gives assignment_parts (λ r h. Builds_assign read g a
     (record { conditions = r.0; entries = r.1; gates = h }))
 
 -- an operand is given
@@ -77,9 +77,9 @@ abbrev pub GivesOperand : (Operand → List Gate → Type 0) → Result sign.Ope
 GivesOperand done = Gives operand_of done
 
 -- so many rounds of a block lead to these rows
-abbrev pub LeadsTo : (Reading → List Gate → Type 0) → Result (Unit {0}) BuildFault → List Entries → List flat.Gate
+abbrev pub RoundsLeadTo : (Reading → List Gate → Type 0) → Result (Unit {0}) BuildFault → List Entries → List flat.Gate
     → Type 0
-LeadsTo done result rows = Gives (λ _. row_at rows) done result
+RoundsLeadTo done result rows = Gives (λ _. row_at rows) done result
 
 -- a number stands for itself
 abbrev pub itself : ℕ → ℕ

@@ -5,6 +5,6 @@ use Rattle.tree_equations.specs.declared.fault.EqFault.{EqFault}
 use Rattle.tree_equations.specs.declared.fault.EqFault.TheVariants.{Gates, Memory}
 
 -- a fault of building as a fault of tables
-abbrev pub fault_of : BuildFault → EqFault
-fault_of build.Gates = Gates
-fault_of build.Memory = Memory
+abbrev pub building_fault : BuildFault → EqFault
+building_fault build.Gates = Gates
+building_fault build.Memory = Memory

@@ -17,11 +17,11 @@ AtObserver None P = Unit {0}
 AtObserver (Some o) P = P (numbered o.value)
 
 -- the table of the system for an observer of it and a wanted value, by the trees of a forest
-abbrev pub IsTableOf : GtsParts → Forest → Value → Table → Expr ℕ → Type 0
-IsTableOf p forest wanted table observer =
+abbrev pub IsTableOfParts : GtsParts → Forest → Value → Table → Expr ℕ → Type 0
+IsTableOfParts p forest wanted table observer =
     IsTable (net_of p) (trees_of (number_in p) forest) observer wanted table
 
 -- each such table has more gates than a table may have
 abbrev pub NeedsTooMany : GtsParts → Forest → Value → Expr ℕ → Type 0
-NeedsTooMany p forest wanted observer = (table : Table) → IsTableOf p forest wanted table observer
+NeedsTooMany p forest wanted observer = (table : Table) → IsTableOfParts p forest wanted table observer
     → most_gates < length table.gates

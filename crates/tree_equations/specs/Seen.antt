@@ -14,7 +14,7 @@ use Rattle.table_steps.specs.Steps.{Reading, Threads, Sees_two, AllMayLeave, See
 use Rattle.table_steps.specs.Table.{flow_numbers}
 
 -- from known values to total ones, and the operand of conflicts
-pub record Conflicts (net : Net ℕ) (known : Reading) (g : List Gate) (total : Reading) (conflict : Operand)
+pub record GivesConflicts (net : Net ℕ) (known : Reading) (g : List Gate) (total : Reading) (conflict : Operand)
     (h : List Gate)
     : Type 0 where
   pub twos : List Operand
@@ -36,7 +36,7 @@ pub record Conflicts (net : Net ℕ) (known : Reading) (g : List Gate) (total : 
 
 -- the same for a total reading and an operand together
 abbrev pub Conflicting : Net ℕ → Reading → List Gate → Reading × Operand → List Gate → Type 0
-Conflicting net known g r h = Conflicts net known g r.0 r.1 h
+Conflicting net known g r h = GivesConflicts net known g r.0 r.1 h
 
 -- rows of total entries, and the operand of conflicts
 abbrev pub GivesConflict : Net ℕ → Reading → List Gate → Result sign.Operand BuildFault → List Entries

@@ -1,7 +1,7 @@
 //! Why there is no table.
 
 ghost use Rattle.std.specs.Prelude.{◌≡◌};
-ghost use Rattle.tree_equations.specs.Faults.{fault_of};
+ghost use Rattle.tree_equations.specs.Faults.{building_fault};
 
 use eq_build::BuildFault;
 
@@ -15,7 +15,7 @@ pub enum EqFault {
 }
 
 impl From<BuildFault> for EqFault {
-    ghost from_gives = { λ b e. e ≡ fault_of b };
+    ghost from_gives = { λ b e. e ≡ building_fault b };
 
     fn from(fault: BuildFault) -> Self {
         match fault {

@@ -8,7 +8,7 @@ ghost use Rattle.flow_blocks.specs.Bits.{row_of};
 ghost use Rattle.flow_blocks.specs.Table.{members_of};
 ghost use Rattle.table_steps.specs.Steps.{flows_from};
 ghost use Rattle.tree_equations.specs.Index.{IsIndex, AreByTarget, AreFlows, AreUnder};
-ghost use Rattle.tree_equations.specs.Blocks.{blocks_in, ArePlaced, ArePlacedBlocks};
+ghost use Rattle.tree_equations.specs.Blocks.{blocks_in, StandAtPlaces, ArePlacedBlocks};
 
 use ar_base::Memory;
 use flow_blocks::Block;
@@ -97,7 +97,7 @@ pub(crate) fn numbered_blocks(
 // The numbers at these places.
 fn numbers_at(alloc: Global, flows: &[u32], places: &[u32]) -> Result<Vec<u32>, Memory>
     requires { AreUnder (length flows.now) places.now }
-    ensures { IfOk result (λ found. ArePlaced flows.now places.now found.items) }
+    ensures { IfOk result (λ found. StandAtPlaces flows.now places.now found.items) }
 {
     let mut numbers = Vec::new(alloc);
     for place in places {

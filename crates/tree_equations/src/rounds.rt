@@ -9,7 +9,7 @@ ghost use Rattle.gts_core.specs.Sound.{IsSound};
 ghost use Rattle.gts_core.specs.View.{net_of, assign_of};
 ghost use Rattle.gts_core.specs.declared.system.Assign.{Assign as FlatAssign};
 ghost use Rattle.table_steps.specs.Steps.{Threads, Gives_target, RoundOf, Rounds, All_rounds};
-ghost use Rattle.tree_equations.specs.Answers.{Gives, GivesEach, LeadsTo, row_in, rows_in, itself};
+ghost use Rattle.tree_equations.specs.Answers.{Gives, GivesEach, RoundsLeadTo, row_in, rows_in, itself};
 ghost use Rattle.tree_equations.specs.Blocks.{blocks_in};
 ghost use Rattle.tree_equations.specs.Index.{IsIndex, AreNumbersOf, AreUnder};
 
@@ -38,7 +38,7 @@ pub(crate) fn all_rounds(
     requires long { length rows.old.items ≡ length parts.now.variables.items }
     requires under { (block : List ℕ) → IsOneOf (blocks_in blocks.now) block
         → AreUnder (length parts.now.variables.items) block }
-    ensures rounds { LeadsTo (λ last h. All_rounds (net_of parts.now) (blocks_in blocks.now)
+    ensures rounds { RoundsLeadTo (λ last h. All_rounds (net_of parts.now) (blocks_in blocks.now)
         (gates_in gates.old.items) (row_at rows.old.items) last h) result rows.new.items
         gates.new.items }
     ensures long { OnOk result (length rows.new.items ≡ length rows.old.items) }
@@ -64,7 +64,7 @@ fn rounds(
     requires index { IsIndex parts.now index.now }
     requires long { length rows.old.items ≡ length parts.now.variables.items }
     requires under { AreUnder (length parts.now.variables.items) block.now }
-    ensures rounds { LeadsTo (λ last h. Rounds (net_of parts.now) block.now (length block.now)
+    ensures rounds { RoundsLeadTo (λ last h. Rounds (net_of parts.now) block.now (length block.now)
         (gates_in gates.old.items) (row_at rows.old.items) last h) result rows.new.items
         gates.new.items }
     ensures long { OnOk result (length rows.new.items ≡ length rows.old.items) }

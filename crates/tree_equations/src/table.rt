@@ -5,13 +5,13 @@ ghost use Rattle.ar_base.specs.Lists.{IsOneOf};
 ghost use Rattle.eq_core.specs.Gates.{Table};
 ghost use Rattle.eq_core.specs.Views.{table_of};
 ghost use Rattle.eq_build.specs.BuildsInside.{most_gates};
-ghost use Rattle.eq_build.specs.Views.{gates_in, row_at, Stops};
+ghost use Rattle.eq_build.specs.Views.{gates_in, row_at, StopsBuilding};
 ghost use Rattle.gts_core.specs.Sound.{IsSound};
 ghost use Rattle.gts_core.specs.View.{net_of};
 ghost use Rattle.mode_trees.specs.declared.forests.ModeTree.{ModeTree as Tree};
 ghost use Rattle.tree_equations.specs.Seen.{GivesConflict};
 ghost use Rattle.tree_equations.specs.Index.{IsIndex};
-ghost use Rattle.tree_equations.specs.Gives.{AtObserver, IsTableOf, NeedsTooMany};
+ghost use Rattle.tree_equations.specs.Gives.{AtObserver, IsTableOfParts, NeedsTooMany};
 
 use crate::assigning::built;
 use crate::fault::EqFault;
@@ -46,7 +46,7 @@ pub fn equations(
     requires few { (tree : Tree) → IsOneOf forest.now.trees.items tree
         → length tree.edges.items < most_gates }
     ensures table { IfOk result (λ q. AtObserver (slice_get gts.now.observers.items observer)
-        (IsTableOf gts.now forest.now wanted (table_of q))) }
+        (IsTableOfParts gts.now forest.now wanted (table_of q))) }
     ensures few { IfOk result (λ q. length q.gates.items ≤ most_gates) }
     ensures gates { result ≡ Err EqFault.Gates
         → AtObserver (slice_get gts.now.observers.items observer)
@@ -67,10 +67,10 @@ fn table(
     requires few { (tree : Tree) → IsOneOf forest.now.trees.items tree
         → length tree.edges.items < most_gates }
     ensures table { IfOk result (λ q. AtObserver (slice_get gts.now.observers.items observer)
-        (IsTableOf gts.now forest.now wanted (table_of q))) }
+        (IsTableOfParts gts.now forest.now wanted (table_of q))) }
     ensures few { IfOk result (λ q. length q.gates.items ≤ most_gates) }
     ensures gates { IfErr result (λ fault.
-        Stops fault (AtObserver (slice_get gts.now.observers.items observer)
+        StopsBuilding fault (AtObserver (slice_get gts.now.observers.items observer)
         (NeedsTooMany gts.now forest.now wanted))) }
 {
     let parts = gts.parts();

@@ -5,7 +5,7 @@ use Rattle.typed_expr.specs.Sets.{Stopped, Gathers}
 use Rattle.typed_expr.specs.Sizes.{HasMoreThan}
 use Rattle.typed_expr.specs.Yields.{Level}
 use Rattle.typed_expr.specs.Possible.{IsWide}
-use Rattle.typed_expr.specs.Evaluating.{Evaluates, IsTruth, SomeRelated, SomeWide, Tallies, Folds, Sums, CaseWide, Took, Chooses, Joins, Tells, Relates}
+use Rattle.typed_expr.specs.Evaluating.{Evaluates, IsTruth, SomeRelated, SomeWide, Tallies, Folds, Sums, CaseWide, Took, Chooses, Joins, TellsAnswer, Relates}
 use Rattle.typed_expr.specs.Evaluating as ev
 use Rattle.typed_expr.specs.declared.expr.Relation.{Relation}
 use Rattle.typed_expr.specs.declared.expr.Expr.{Expr, out-Expr}
@@ -46,10 +46,10 @@ module _ {V : Type 0} (facts : V → Value → Type 0) (most : Option ℕ) where
 
   pub not-arm : (r : Result (List Value) Stop) (e d : Expr V) (a : Box (Expr V) Global) (t f : Bool)
       → e ≡ view.Not a → d ≡ a.value
-      → Tells facts most true (Ok (t, f)) (out-Expr V d) → Gathers most r (IsTruth f t)
+      → TellsAnswer facts most true (Ok (t, f)) (out-Expr V d) → Gathers most r (IsTruth f t)
       → Evaluates facts most r (out-Expr V e)
   not-arm r e d a t f i j h g =
-      let P : Expr V → Type 0 = λ z. Tells facts most true (Ok (t, f)) (out-Expr V z) in
+      let P : Expr V → Type 0 = λ z. TellsAnswer facts most true (Ok (t, f)) (out-Expr V z) in
       at r e (Not a) (opened-not e a i) (form.not-done facts most a t f r (subst P j h) g)
 
   pub not-stop : (stop : Stop) (e d : Expr V) (a : Box (Expr V) Global) → e ≡ view.Not a → d ≡ a.value

@@ -11,7 +11,7 @@ use Rattle.typed_expr.specs.Yields.{Level, Yields, Some_yields, All_yield, Picks
 use Rattle.typed_expr.specs.YieldsInside.{facts_of}
 use Rattle.typed_expr.specs.Yields as y
 use Rattle.typed_expr.specs.Possible.{IsSubexpression, itself, in_not, in_all, in_any, in_left, in_right, in_sum, in_product, in_least, in_greatest, in_count, in_test, in_value, in_other, IsWide, subexpression, step}
-use Rattle.typed_expr.specs.Evaluating.{Evaluates, IsTruth, SomeRelated, SomeWide, Tallied, Tallies, FoldYields, SomeStep, Folds, SumYields, PartWide, Sums, CaseWide, Took, PassesAll, Chosen, Chooses, BranchYields, Joins, Told, Tells}
+use Rattle.typed_expr.specs.Evaluating.{Evaluates, IsTruth, SomeRelated, SomeWide, Tallied, Tallies, FoldYields, SomeStep, Folds, SumYields, PartWide, Sums, CaseWide, Took, PassesAll, Chosen, Chooses, BranchYields, Joins, ToldTruth, TellsAnswer}
 use Rattle.typed_expr.specs.Folds.{fold_of}
 use Rattle.typed_expr.specs.declared.expr.Relation.{Relation}
 use Rattle.typed_expr.specs.declared.expr.Expr.{Expr, out-Expr}
@@ -272,20 +272,20 @@ module _ {V : Type 0} (facts : V → Value → Type 0) where
       (nothing most)
 
   to_not : (a : Box (Expr V) Global) (can_be_true can_be_false : Bool)
-      → Told facts true can_be_true can_be_false (out-Expr V a.value)
+      → ToldTruth facts true can_be_true can_be_false (out-Expr V a.value)
       → (v : Value) → IsTruth can_be_false can_be_true v → Yields facts (Not a) v
   to_not a t f h v (inl m) = subst (Yields facts (Not a)) (sym m.1) (y.opposite (h.same.0 m.0))
   to_not a t f h v (inr m) = subst (Yields facts (Not a)) (sym m.1) (y.opposite (h.opposite.0 m.0))
 
   from_not : (a : Box (Expr V) Global) (can_be_true can_be_false : Bool)
-      → Told facts true can_be_true can_be_false (out-Expr V a.value)
+      → ToldTruth facts true can_be_true can_be_false (out-Expr V a.value)
       → (v : Value) → Yields facts (Not a) v → IsTruth can_be_false can_be_true v
   from_not a t f h v (y.opposite {b = true} d) = inl (h.same.1 d, refl)
   from_not a t f h v (y.opposite {b = false} d) = inr (h.opposite.1 d, refl)
 
   pub not-done : (most : Option ℕ) (a : Box (Expr V) Global) (can_be_true can_be_false : Bool)
       (r : Result (List Value) Stop)
-      → Tells facts most true (Ok (can_be_true, can_be_false)) (out-Expr V a.value)
+      → TellsAnswer facts most true (Ok (can_be_true, can_be_false)) (out-Expr V a.value)
       → Gathers most r (IsTruth can_be_false can_be_true) → Evaluates facts most r (Not a)
   not-done most a t f r h g =
       finish most (Not a) r (IsTruth f t) (λ n. IsWide facts n (out-Expr V a.value)) g (to_not a t f h.0)

@@ -12,7 +12,7 @@ use Rattle.domains.proofs.Order.{ascends-from, ascends-length}
 use Rattle.typed_expr.specs.Folds.{next_of}
 use Rattle.typed_expr.specs.Sets.{HasExactly, AtLimit, KeepsLimit, Gathers, Stopped, AddsValue, Inserts, RefusesValue}
 use Rattle.typed_expr.specs.Sizes.{HasMoreThan}
-use Rattle.typed_expr.specs.Evaluating.{IsTruth, IsNext, SomeRelated}
+use Rattle.typed_expr.specs.Evaluating.{IsTruth, IsNextOperand, SomeRelated}
 use Rattle.typed_expr.specs.declared.fold.Step.{Step}
 use Rattle.typed_expr.specs.declared.expr.Relation.{Relation}
 use Rattle.typed_expr.specs.declared.value_set.Stop.{Stop}
@@ -150,10 +150,10 @@ joined-end most old set values i h s =
 
 -- one number with the first places of the values
 abbrev pub SteppedTo : Step → Bool → Value → List Value → List Value → ℕ → Value → Type 0
-SteppedTo s first n old values i v = Contains old v ⊎ IsNext s first (n ∷ []) (take i values) v
+SteppedTo s first n old values i v = Contains old v ⊎ IsNextOperand s first (n ∷ []) (take i values) v
 
 next-more : (s : Step) (first : Bool) (ns values : List Value) (i : ℕ) (d v : Value) → i < length values
-    → IsNext s first ns (take i values) v → IsNext s first ns (take (i + 1) values) v
+    → IsNextOperand s first ns (take i values) v → IsNextOperand s first ns (take (i + 1) values) v
 next-more s first ns values i d v h m = record {
   number = m.number;
   value = m.value;
@@ -163,7 +163,7 @@ next-more s first ns values i d v h m = record {
 }
 
 next-within : (s : Step) (first : Bool) (ns values : List Value) (i : ℕ) (v : Value)
-    → IsNext s first ns (take i values) v → IsNext s first ns values v
+    → IsNextOperand s first ns (take i values) v → IsNextOperand s first ns values v
 next-within s first ns values i v m = record {
   number = m.number;
   value = m.value;
@@ -173,7 +173,7 @@ next-within s first ns values i v m = record {
 }
 
 next-here : (s : Step) (first : Bool) (n : Value) (values : List Value) (i : ℕ) (d : Value) → i < length values
-    → IsNext s first (n ∷ []) (take (i + 1) values) (Whole (next_of s first (whole_of n) (get_or values i d)))
+    → IsNextOperand s first (n ∷ []) (take (i + 1) values) (Whole (next_of s first (whole_of n) (get_or values i d)))
 next-here s first n values i d h = record {
   number = n;
   value = get_or values i d;
@@ -183,8 +183,8 @@ next-here s first n values i d h = record {
 }
 
 next-cases : (s : Step) (first : Bool) (n : Value) (values : List Value) (i : ℕ) (d v : Value) → i < length values
-    → IsNext s first (n ∷ []) (take (i + 1) values) v
-    → IsNext s first (n ∷ []) (take i values) v ⊎ (v ≡ Whole (next_of s first (whole_of n) (get_or values i d)))
+    → IsNextOperand s first (n ∷ []) (take (i + 1) values) v
+    → IsNextOperand s first (n ∷ []) (take i values) v ⊎ (v ≡ Whole (next_of s first (whole_of n) (get_or values i d)))
 next-cases s first n values i d v h m =
     elim (take-cases values i d m.value h m.in_values) [
       | inl k ↦ inl (record { number = m.number; value = m.value; in_numbers = m.in_numbers; in_values = k; is = m.is })
@@ -214,7 +214,7 @@ pub stepped-more : (most : Option ℕ) (s : Step) (first : Bool) (n x : Value) (
 stepped-more most s first n x old set new values i d h t e a = (
   exactly-put set new x (SteppedTo s first n old values i) (SteppedTo s first n old values (i + 1)) t.0 a.0
       (λ v m. elim m [ inl k ↦ inl k | inr k ↦ inr (next-more s first (n ∷ []) values i d v h k) ])
-      (inr (subst (IsNext s first (n ∷ []) (take (i + 1) values)) (sym e) (next-here s first n values i d h)))
+      (inr (subst (IsNextOperand s first (n ∷ []) (take (i + 1) values)) (sym e) (next-here s first n values i d h)))
       (λ v m. elim m [
         | inl k ↦ inl (inl k)
         | inr k ↦ elim (next-cases s first n values i d v h k) [ inl l ↦ inl (inr l) | inr q ↦ inr (q ∙ sym e) ]
@@ -227,26 +227,26 @@ pub stepped-refused : (most : Option ℕ) (s : Step) (first : Bool) (n x : Value
     → i < length values
     → SoFar most set (SteppedTo s first n old values i) → x ≡ Whole (next_of s first (whole_of n) (get_or values i d))
     → RefusesValue most set x stop
-    → Gathers most (Err stop) (λ v. Contains old v ⊎ IsNext s first (n ∷ []) values v)
+    → Gathers most (Err stop) (λ v. Contains old v ⊎ IsNextOperand s first (n ∷ []) values v)
 stepped-refused most s first n x old set values i d stop h t e r =
     refused-put most set x stop (SteppedTo s first n old values i)
-    (λ v. Contains old v ⊎ IsNext s first (n ∷ []) values v) t.0 r
+    (λ v. Contains old v ⊎ IsNextOperand s first (n ∷ []) values v) t.0 r
     (λ v m. elim m [ inl k ↦ inl k | inr k ↦ inr (next-within s first (n ∷ []) values i v k) ])
-    (inr (subst (IsNext s first (n ∷ []) values) (sym e)
+    (inr (subst (IsNextOperand s first (n ∷ []) values) (sym e)
     (next-within s first (n ∷ []) values (i + 1) _ (next-here s first n values i d h))))
 
 pub stepped-end : (most : Option ℕ) (s : Step) (first : Bool) (n : Value) (old set values : List Value) (i : ℕ)
     → length values ≤ i → SoFar most set (SteppedTo s first n old values i)
-    → Gathers most (Ok set) (λ v. Contains old v ⊎ IsNext s first (n ∷ []) values v)
+    → Gathers most (Ok set) (λ v. Contains old v ⊎ IsNextOperand s first (n ∷ []) values v)
 stepped-end most s first n old set values i h t =
-    let P : List Value → Type 0 = λ l. SoFar most set (λ v. Contains old v ⊎ IsNext s first (n ∷ []) l v) in
+    let P : List Value → Type 0 = λ l. SoFar most set (λ v. Contains old v ⊎ IsNextOperand s first (n ∷ []) l v) in
     subst P (take_all i values h) t
 
 numbers_up : (s : Step) (first : Bool) (ns values set : List Value) (i : ℕ) (d n : Value) → i < length ns
     → n ≡ get_or ns i d
-    → ((v : Value) → Contains set v → IsNext s first (take i ns) values v) → (v : Value)
-    → Contains set v ⊎ IsNext s first (n ∷ []) values v
-    → IsNext s first (take (i + 1) ns) values v
+    → ((v : Value) → Contains set v → IsNextOperand s first (take i ns) values v) → (v : Value)
+    → Contains set v ⊎ IsNextOperand s first (n ∷ []) values v
+    → IsNextOperand s first (take (i + 1) ns) values v
 numbers_up s first ns values set i d n h e t v (inl k) =
     let m = t v k in
     record {
@@ -268,9 +268,9 @@ numbers_up s first ns values set i d n h e t v (inr m) = record {
 
 numbers_down : (s : Step) (first : Bool) (ns values set : List Value) (i : ℕ) (d n : Value) → i < length ns
     → n ≡ get_or ns i d
-    → ((v : Value) → IsNext s first (take i ns) values v → Contains set v) → (v : Value)
-    → IsNext s first (take (i + 1) ns) values v
-    → Contains set v ⊎ IsNext s first (n ∷ []) values v
+    → ((v : Value) → IsNextOperand s first (take i ns) values v → Contains set v) → (v : Value)
+    → IsNextOperand s first (take (i + 1) ns) values v
+    → Contains set v ⊎ IsNextOperand s first (n ∷ []) values v
 numbers_down s first ns values set i d n h e t v m =
     elim (take-cases ns i d m.number h m.in_numbers) [
       | inl k ↦
@@ -289,19 +289,19 @@ numbers_down s first ns values set i d n h e t v m =
 -- one more number
 pub numbers-more : (most : Option ℕ) (s : Step) (first : Bool) (ns values set new : List Value) (i : ℕ) (d n : Value)
     → i < length ns → n ≡ get_or ns i d
-    → HasExactly set (IsNext s first (take i ns) values)
-    → Gathers most (Ok new) (λ v. Contains set v ⊎ IsNext s first (n ∷ []) values v)
-    → SoFar most new (IsNext s first (take (i + 1) ns) values)
+    → HasExactly set (IsNextOperand s first (take i ns) values)
+    → Gathers most (Ok new) (λ v. Contains set v ⊎ IsNextOperand s first (n ∷ []) values v)
+    → SoFar most new (IsNextOperand s first (take (i + 1) ns) values)
 numbers-more most s first ns values set new i d n h e t g =
-    gathers-as most (Ok new) {P = λ v. Contains set v ⊎ IsNext s first (n ∷ []) values v}
+    gathers-as most (Ok new) {P = λ v. Contains set v ⊎ IsNextOperand s first (n ∷ []) values v}
     (numbers_up s first ns values set i d n h e t.sound) (numbers_down s first ns values set i d n h e t.complete) g
 
 pub numbers-refused : (most : Option ℕ) (s : Step) (first : Bool) (ns values set : List Value) (i : ℕ) (d n : Value)
     (stop : Stop)
     → i < length ns → n ≡ get_or ns i d
-    → HasExactly set (IsNext s first (take i ns) values)
-    → Gathers most (Err stop) (λ v. Contains set v ⊎ IsNext s first (n ∷ []) values v)
-    → Gathers most (Err stop) (IsNext s first ns values)
+    → HasExactly set (IsNextOperand s first (take i ns) values)
+    → Gathers most (Err stop) (λ v. Contains set v ⊎ IsNextOperand s first (n ∷ []) values v)
+    → Gathers most (Err stop) (IsNextOperand s first ns values)
 numbers-refused None s first ns values set i d n TooMany h e t g = g
 numbers-refused (Some k) s first ns values set i d n TooMany h e t g =
     more-than (λ v m. let u = numbers_up s first ns values set i d n h e t.sound v m in
@@ -315,7 +315,7 @@ numbers-refused (Some k) s first ns values set i d n TooMany h e t g =
 numbers-refused most s first ns values set i d n (NoMemory memory) h e t g = tt
 
 pub numbers-start : (most : Option ℕ) (s : Step) (first : Bool) (ns values set : List Value) → set ≡ []
-    → SoFar most set (IsNext s first (take 0 ns) values)
+    → SoFar most set (IsNextOperand s first (take 0 ns) values)
 numbers-start None s first ns values set e = (
   record {
     sound = λ v m. absurd (nothing-in v (subst (λ (l : List Value). Contains l v) e m));
@@ -332,10 +332,10 @@ numbers-start (Some k) s first ns values set e = (
 )
 
 pub numbers-end : (most : Option ℕ) (s : Step) (first : Bool) (ns values set : List Value) (i : ℕ) → length ns ≤ i
-    → SoFar most set (IsNext s first (take i ns) values)
-    → Gathers most (Ok set) (IsNext s first ns values)
+    → SoFar most set (IsNextOperand s first (take i ns) values)
+    → Gathers most (Ok set) (IsNextOperand s first ns values)
 numbers-end most s first ns values set i h t =
-    let P : List Value → Type 0 = λ l. SoFar most set (IsNext s first l values) in
+    let P : List Value → Type 0 = λ l. SoFar most set (IsNextOperand s first l values) in
     subst P (take_all i ns h) t
 
 pub keeps-nothing : (most : Option ℕ) (set : List Value) → set ≡ [] → KeepsLimit most set
@@ -445,7 +445,7 @@ gathered-exactly most all r P h g = gathers-as most r {P = Contains all} h.sound
 
 -- the results of the first numbers with one value, behind those of before
 abbrev pub ResultsTo : Step → Bool → List Value → Value → List Value → ℕ → Value → Type 0
-ResultsTo s first numbers v old i w = Contains old w ⊎ IsNext s first (take i numbers) (v ∷ []) w
+ResultsTo s first numbers v old i w = Contains old w ⊎ IsNextOperand s first (take i numbers) (v ∷ []) w
 
 pub results-start : (s : Step) (first : Bool) (numbers : List Value) (v : Value) (old : List Value)
     → HasExactly old (ResultsTo s first numbers v old 0)
@@ -455,7 +455,7 @@ results-start s first numbers v old = record {
 }
 
 result-here : (s : Step) (first : Bool) (numbers : List Value) (v : Value) (i : ℕ) (d : Value) → i < length numbers
-    → IsNext s first (take (i + 1) numbers) (v ∷ []) (Whole (next_of s first (whole_of (get_or numbers i d)) v))
+    → IsNextOperand s first (take (i + 1) numbers) (v ∷ []) (Whole (next_of s first (whole_of (get_or numbers i d)) v))
 result-here s first numbers v i d h = record {
   number = get_or numbers i d;
   value = v;
@@ -465,7 +465,7 @@ result-here s first numbers v i d h = record {
 }
 
 result-more : (s : Step) (first : Bool) (numbers : List Value) (v : Value) (i : ℕ) (d w : Value) → i < length numbers
-    → IsNext s first (take i numbers) (v ∷ []) w → IsNext s first (take (i + 1) numbers) (v ∷ []) w
+    → IsNextOperand s first (take i numbers) (v ∷ []) w → IsNextOperand s first (take (i + 1) numbers) (v ∷ []) w
 result-more s first numbers v i d w h k = record {
   number = k.number;
   value = k.value;
@@ -475,8 +475,8 @@ result-more s first numbers v i d w h k = record {
 }
 
 result-cases : (s : Step) (first : Bool) (numbers : List Value) (v : Value) (i : ℕ) (d w : Value) → i < length numbers
-    → IsNext s first (take (i + 1) numbers) (v ∷ []) w
-    → IsNext s first (take i numbers) (v ∷ []) w ⊎ (w ≡ Whole (next_of s first (whole_of (get_or numbers i d)) v))
+    → IsNextOperand s first (take (i + 1) numbers) (v ∷ []) w
+    → IsNextOperand s first (take i numbers) (v ∷ []) w ⊎ (w ≡ Whole (next_of s first (whole_of (get_or numbers i d)) v))
 result-cases s first numbers v i d w h k =
     elim (take-cases numbers i d k.number h k.in_numbers) [
       | inl l ↦
@@ -497,7 +497,7 @@ results-more s first numbers v x old set new i d h t e j =
     (exactly-put set (set ++ x ∷ []) x (ResultsTo s first numbers v old i) (ResultsTo s first numbers v old (i + 1)) t
     (adds-push set x)
     (λ w m. elim m [ inl k ↦ inl k | inr k ↦ inr (result-more s first numbers v i d w h k) ])
-    (inr (subst (IsNext s first (take (i + 1) numbers) (v ∷ [])) (sym e) (result-here s first numbers v i d h)))
+    (inr (subst (IsNextOperand s first (take (i + 1) numbers) (v ∷ [])) (sym e) (result-here s first numbers v i d h)))
     (λ w m. elim m [
       | inl k ↦ inl (inl k)
       | inr k ↦ elim (result-cases s first numbers v i d w h k) [ inl l ↦ inl (inr l) | inr q ↦ inr (q ∙ sym e) ]
@@ -505,21 +505,21 @@ results-more s first numbers v x old set new i d h t e j =
 
 pub results-end : (s : Step) (first : Bool) (numbers : List Value) (v : Value) (old set : List Value) (i : ℕ)
     → length numbers ≤ i → HasExactly set (ResultsTo s first numbers v old i)
-    → HasExactly set (λ w. Contains old w ⊎ IsNext s first numbers (v ∷ []) w)
+    → HasExactly set (λ w. Contains old w ⊎ IsNextOperand s first numbers (v ∷ []) w)
 results-end s first numbers v old set i h t =
-    let P : List Value → Type 0 = λ l. HasExactly set (λ w. Contains old w ⊎ IsNext s first l (v ∷ []) w) in
+    let P : List Value → Type 0 = λ l. HasExactly set (λ w. Contains old w ⊎ IsNextOperand s first l (v ∷ []) w) in
     subst P (take_all i numbers h) t
 
 pub runs-start : (s : Step) (first : Bool) (numbers values set : List Value) → set ≡ []
-    → HasExactly set (IsNext s first numbers (take 0 values))
+    → HasExactly set (IsNextOperand s first numbers (take 0 values))
 runs-start s first numbers values set e = record {
   sound = λ v m. absurd (nothing-in v (subst (λ (l : List Value). Contains l v) e m));
   complete = λ v m. absurd (nothing-in m.value m.in_values);
 }
 
 run_up : (s : Step) (first : Bool) (numbers values set : List Value) (i : ℕ) (d v : Value) → i < length values
-    → v ≡ get_or values i d → ((w : Value) → Contains set w → IsNext s first numbers (take i values) w) → (w : Value)
-    → Contains set w ⊎ IsNext s first numbers (v ∷ []) w → IsNext s first numbers (take (i + 1) values) w
+    → v ≡ get_or values i d → ((w : Value) → Contains set w → IsNextOperand s first numbers (take i values) w) → (w : Value)
+    → Contains set w ⊎ IsNextOperand s first numbers (v ∷ []) w → IsNextOperand s first numbers (take (i + 1) values) w
 run_up s first numbers values set i d v h e t w (inl k) =
     let m = t w k in
     record {
@@ -540,8 +540,8 @@ run_up s first numbers values set i d v h e t w (inr m) = record {
 }
 
 run_down : (s : Step) (first : Bool) (numbers values set : List Value) (i : ℕ) (d v : Value) → i < length values
-    → v ≡ get_or values i d → ((w : Value) → IsNext s first numbers (take i values) w → Contains set w) → (w : Value)
-    → IsNext s first numbers (take (i + 1) values) w → Contains set w ⊎ IsNext s first numbers (v ∷ []) w
+    → v ≡ get_or values i d → ((w : Value) → IsNextOperand s first numbers (take i values) w → Contains set w) → (w : Value)
+    → IsNextOperand s first numbers (take (i + 1) values) w → Contains set w ⊎ IsNextOperand s first numbers (v ∷ []) w
 run_down s first numbers values set i d v h e t w m =
     elim (take-cases values i d m.value h m.in_values) [
       | inl k ↦
@@ -560,17 +560,17 @@ run_down s first numbers values set i d v h e t w m =
 
 -- one more run
 pub runs-more : (s : Step) (first : Bool) (numbers values set new : List Value) (i : ℕ) (d v : Value)
-    → i < length values → v ≡ get_or values i d → HasExactly set (IsNext s first numbers (take i values))
-    → HasExactly new (λ w. Contains set w ⊎ IsNext s first numbers (v ∷ []) w)
-    → HasExactly new (IsNext s first numbers (take (i + 1) values))
+    → i < length values → v ≡ get_or values i d → HasExactly set (IsNextOperand s first numbers (take i values))
+    → HasExactly new (λ w. Contains set w ⊎ IsNextOperand s first numbers (v ∷ []) w)
+    → HasExactly new (IsNextOperand s first numbers (take (i + 1) values))
 runs-more s first numbers values set new i d v h e t g = record {
   sound = λ w m. run_up s first numbers values set i d v h e t.sound w (g.sound w m);
   complete = λ w m. g.complete w (run_down s first numbers values set i d v h e t.complete w m);
 }
 
 pub runs-end : (s : Step) (first : Bool) (numbers values all sorted : List Value) (i : ℕ) → length values ≤ i
-    → HasExactly all (IsNext s first numbers (take i values)) → IsPermutation all sorted
-    → HasExactly sorted (IsNext s first numbers values)
+    → HasExactly all (IsNextOperand s first numbers (take i values)) → IsPermutation all sorted
+    → HasExactly sorted (IsNextOperand s first numbers values)
 runs-end s first numbers values all sorted i h t p =
-    exactly-sorted all sorted (IsNext s first numbers values)
-    (let P : List Value → Type 0 = λ l. HasExactly all (IsNext s first numbers l) in subst P (take_all i values h) t) p
+    exactly-sorted all sorted (IsNextOperand s first numbers values)
+    (let P : List Value → Type 0 = λ l. HasExactly all (IsNextOperand s first numbers l) in subst P (take_all i values h) t) p

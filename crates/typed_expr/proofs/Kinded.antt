@@ -7,7 +7,7 @@ use Rattle.domains.specs.declared.Value.{Value}
 use Rattle.domains.proofs.Members.{contains-cases, nothing-in}
 use Rattle.typed_expr.specs.Yields.{Level}
 use Rattle.typed_expr.specs.Kinds.{kind_of, Compares, HasKind, Each, Each_part, Each_case}
-use Rattle.typed_expr.specs.KindsInside.{IsKindOf}
+use Rattle.typed_expr.specs.KindsInside.{IsLevelKind}
 use Rattle.typed_expr.specs.Kinds as k
 use Rattle.typed_expr.specs.declared.expr.Relation.{Relation}
 use Rattle.typed_expr.specs.declared.expr.Relation.TheVariants.{Equal, Differs, Less, AtMost, More, AtLeast}
@@ -37,7 +37,7 @@ module _ {V : Type 0} (kinds : V → ValueKind) where
   one_kind (k.choice l c d) (k.choice m f e) = one_kind d e
 
   -- the kind that was found is this one exactly where the expression has it
-  pub is-kind : (e : Level V) (found : Option ValueKind) (b : Bool) (kind : ValueKind) → IsKindOf kinds e found
+  pub is-kind : (e : Level V) (found : Option ValueKind) (b : Bool) (kind : ValueKind) → IsLevelKind kinds e found
       → IsTrue b ↔ (found ≡ Some kind) → IsTrue b ↔ HasKind kinds e kind
   is-kind e None b kind h f = ((λ t. let i = f.0 t in cc), (λ d. absurd (h kind d)))
   is-kind e (Some l) b kind h f =
@@ -46,12 +46,12 @@ module _ {V : Type 0} (kinds : V → ValueKind) where
   -- where the kind is given if a test holds
   pub kind-where : (e : Level V) (C : Type 0) (kind : ValueKind) (b : Bool) (r : Option ValueKind)
       → r ≡ cond b (Some kind) None → IsTrue b ↔ C → (C → HasKind kinds e kind)
-      → ((l : ValueKind) → HasKind kinds e l → C) → IsKindOf kinds e r
+      → ((l : ValueKind) → HasKind kinds e l → C) → IsLevelKind kinds e r
   kind-where e C kind true r i f up down =
-      let P : Option ValueKind → Type 0 = λ z. IsKindOf kinds e z in
+      let P : Option ValueKind → Type 0 = λ z. IsLevelKind kinds e z in
       subst P (sym i) (up (f.0 refl))
   kind-where e C kind false r i f up down =
-      let P : Option ValueKind → Type 0 = λ z. IsKindOf kinds e z in
+      let P : Option ValueKind → Type 0 = λ z. IsLevelKind kinds e z in
       subst P (sym i) (λ l d. let t = f.1 (down l d) in cc)
 
   in_not : (a : Box (Expr V) Global) (l : ValueKind) → HasKind kinds (Not a) l
@@ -86,13 +86,13 @@ module _ {V : Type 0} (kinds : V → ValueKind) where
       → (0 < length es.items) × Each kinds es.items Truth
   in_count es l (k.count m d) = (m, d)
 
-  at : (r : Option ValueKind) (e : Expr V) (x : Level V) → out-Expr V e ≡ x → IsKindOf kinds x r
-      → IsKindOf kinds (out-Expr V e) r
-  at r e x i h = let P : Level V → Type 0 = λ z. IsKindOf kinds z r in subst P (sym i) h
+  at : (r : Option ValueKind) (e : Expr V) (x : Level V) → out-Expr V e ≡ x → IsLevelKind kinds x r
+      → IsLevelKind kinds (out-Expr V e) r
+  at r e x i h = let P : Level V → Type 0 = λ z. IsLevelKind kinds z r in subst P (sym i) h
 
-  in_box : (r : Option ValueKind) (e : Expr V) (a : Box (Expr V) Global) → e ≡ a.value → IsKindOf kinds (out-Expr V e) r
-      → IsKindOf kinds (out-Expr V a.value) r
-  in_box r e a i h = let P : Expr V → Type 0 = λ z. IsKindOf kinds (out-Expr V z) r in subst P i h
+  in_box : (r : Option ValueKind) (e : Expr V) (a : Box (Expr V) Global) → e ≡ a.value → IsLevelKind kinds (out-Expr V e) r
+      → IsLevelKind kinds (out-Expr V a.value) r
+  in_box r e a i h = let P : Expr V → Type 0 = λ z. IsLevelKind kinds (out-Expr V z) r in subst P i h
 
   pub constant-arm : (e : Expr V) (v : Value) (kind : ValueKind) → e ≡ plain.Constant v → kind ≡ kind_of v
       → HasKind kinds (out-Expr V e) kind
@@ -107,8 +107,8 @@ module _ {V : Type 0} (kinds : V → ValueKind) where
       at (Some kind) e (Variable x) (ap (out-Expr V) i ∙ opened.opened-variable x) (subst P (sym j) k.variable)
 
   pub not-arm : (e d : Expr V) (a : Box (Expr V) Global) (found r : Option ValueKind) (b : Bool) → e ≡ view.Not a
-      → d ≡ a.value → IsKindOf kinds (out-Expr V d) found
-      → IsTrue b ↔ (found ≡ Some Truth) → r ≡ cond b (Some Truth) None → IsKindOf kinds (out-Expr V e) r
+      → d ≡ a.value → IsLevelKind kinds (out-Expr V d) found
+      → IsTrue b ↔ (found ≡ Some Truth) → r ≡ cond b (Some Truth) None → IsLevelKind kinds (out-Expr V e) r
   not-arm e d a found r b i j h f g =
       at r e (Not a) (opened.opened-not e a i)
       (kind-where (Not a) (HasKind kinds (out-Expr V a.value) Truth) Truth b r g
@@ -123,7 +123,7 @@ module _ {V : Type 0} (kinds : V → ValueKind) where
   pub all-arm : (e : Expr V) (xs : List (Expr V)) (es : Vec (Expr V) Global) (r : Option ValueKind) (b : Bool)
       → e ≡ view.All es → xs ≡ es.items
       → IsTrue b ↔ ((0 < length xs) × Each kinds xs Truth) → r ≡ cond b (Some Truth) None
-      → IsKindOf kinds (out-Expr V e) r
+      → IsLevelKind kinds (out-Expr V e) r
   all-arm e xs es r b i j f g =
       at r e (All es) (opened.opened-all e es i)
       (kind-where (All es) ((0 < length es.items) × Each kinds es.items Truth) Truth b r g
@@ -132,7 +132,7 @@ module _ {V : Type 0} (kinds : V → ValueKind) where
   pub any-arm : (e : Expr V) (xs : List (Expr V)) (es : Vec (Expr V) Global) (r : Option ValueKind) (b : Bool)
       → e ≡ view.Any es → xs ≡ es.items
       → IsTrue b ↔ ((0 < length xs) × Each kinds xs Truth) → r ≡ cond b (Some Truth) None
-      → IsKindOf kinds (out-Expr V e) r
+      → IsLevelKind kinds (out-Expr V e) r
   any-arm e xs es r b i j f g =
       at r e (Any es) (opened.opened-any e es i)
       (kind-where (Any es) ((0 < length es.items) × Each kinds es.items Truth) Truth b r g
@@ -141,7 +141,7 @@ module _ {V : Type 0} (kinds : V → ValueKind) where
   pub product-arm : (e : Expr V) (xs : List (Expr V)) (es : Vec (Expr V) Global) (r : Option ValueKind) (b : Bool)
       → e ≡ view.Product es → xs ≡ es.items
       → IsTrue b ↔ ((0 < length xs) × Each kinds xs Whole) → r ≡ cond b (Some Whole) None
-      → IsKindOf kinds (out-Expr V e) r
+      → IsLevelKind kinds (out-Expr V e) r
   product-arm e xs es r b i j f g =
       at r e (Product es) (opened.opened-product e es i)
       (kind-where (Product es) ((0 < length es.items) × Each kinds es.items Whole) Whole b r g
@@ -150,7 +150,7 @@ module _ {V : Type 0} (kinds : V → ValueKind) where
   pub least-arm : (e : Expr V) (xs : List (Expr V)) (es : Vec (Expr V) Global) (r : Option ValueKind) (b : Bool)
       → e ≡ view.Least es → xs ≡ es.items
       → IsTrue b ↔ ((0 < length xs) × Each kinds xs Whole) → r ≡ cond b (Some Whole) None
-      → IsKindOf kinds (out-Expr V e) r
+      → IsLevelKind kinds (out-Expr V e) r
   least-arm e xs es r b i j f g =
       at r e (Least es) (opened.opened-least e es i)
       (kind-where (Least es) ((0 < length es.items) × Each kinds es.items Whole) Whole b r g
@@ -159,7 +159,7 @@ module _ {V : Type 0} (kinds : V → ValueKind) where
   pub greatest-arm : (e : Expr V) (xs : List (Expr V)) (es : Vec (Expr V) Global) (r : Option ValueKind) (b : Bool)
       → e ≡ view.Greatest es → xs ≡ es.items
       → IsTrue b ↔ ((0 < length xs) × Each kinds xs Whole) → r ≡ cond b (Some Whole) None
-      → IsKindOf kinds (out-Expr V e) r
+      → IsLevelKind kinds (out-Expr V e) r
   greatest-arm e xs es r b i j f g =
       at r e (Greatest es) (opened.opened-greatest e es i)
       (kind-where (Greatest es) ((0 < length es.items) × Each kinds es.items Whole) Whole b r g
@@ -168,7 +168,7 @@ module _ {V : Type 0} (kinds : V → ValueKind) where
   pub count-arm : (e : Expr V) (xs : List (Expr V)) (es : Vec (Expr V) Global) (r : Option ValueKind) (b : Bool)
       → e ≡ view.Count es → xs ≡ es.items
       → IsTrue b ↔ ((0 < length xs) × Each kinds xs Truth) → r ≡ cond b (Some Whole) None
-      → IsKindOf kinds (out-Expr V e) r
+      → IsLevelKind kinds (out-Expr V e) r
   count-arm e xs es r b i j f g =
       at r e (Count es) (opened.opened-count e es i)
       (kind-where (Count es) ((0 < length es.items) × Each kinds es.items Truth) Whole b r g
@@ -178,7 +178,7 @@ module _ {V : Type 0} (kinds : V → ValueKind) where
       (b : Bool)
       → e ≡ view.Sum ps → xs ≡ ps.items
       → IsTrue b ↔ ((0 < length xs) × Each_part kinds xs) → r ≡ cond b (Some Whole) None
-      → IsKindOf kinds (out-Expr V e) r
+      → IsLevelKind kinds (out-Expr V e) r
   sum-arm e xs ps r b i j f g =
       let P : List (Bool × Expr V) → Type 0 = λ z. IsTrue b ↔ ((0 < length z) × Each_part kinds z) in
       at r e (Sum ps) (opened.opened-sum e ps i)
@@ -194,9 +194,9 @@ module _ {V : Type 0} (kinds : V → ValueKind) where
   pub compare-arm : (e c d : Expr V) (q : Relation) (a b : Box (Expr V) Global) (kind : ValueKind)
       (found r : Option ValueKind) (can is both : Bool)
       → e ≡ view.Compare q a b → c ≡ a.value → d ≡ b.value
-      → HasKind kinds (out-Expr V c) kind → IsKindOf kinds (out-Expr V d) found → IsTrue can ↔ Compares q kind
+      → HasKind kinds (out-Expr V c) kind → IsLevelKind kinds (out-Expr V d) found → IsTrue can ↔ Compares q kind
       → IsTrue is ↔ (found ≡ Some kind) → IsTrue both ↔ (IsTrue can × IsTrue is)
-      → r ≡ cond both (Some Truth) None → IsKindOf kinds (out-Expr V e) r
+      → r ≡ cond both (Some Truth) None → IsLevelKind kinds (out-Expr V e) r
   compare-arm e c d q a b kind found r can is both i j l h m f g p o =
       let left : HasKind kinds (out-Expr V a.value) kind = in_box (Some kind) c a j h in
       let right = is-kind (out-Expr V b.value) found is kind (in_box found d b l m) g in
@@ -210,7 +210,7 @@ module _ {V : Type 0} (kinds : V → ValueKind) where
   no_left q a b l f (k.compared {k = m} c d e) = f m d
 
   pub compare-none : (e c : Expr V) (q : Relation) (a b : Box (Expr V) Global) → e ≡ view.Compare q a b → c ≡ a.value
-      → IsKindOf kinds (out-Expr V c) None → IsKindOf kinds (out-Expr V e) None
+      → IsLevelKind kinds (out-Expr V c) None → IsLevelKind kinds (out-Expr V e) None
   compare-none e c q a b i j h =
       at None e (Compare q a b) (opened.opened-compare e q a b i) (λ l d. no_left q a b l (in_box None c a j h) d)
 
@@ -225,7 +225,7 @@ module _ {V : Type 0} (kinds : V → ValueKind) where
       (other : Box (Expr V) Global) (kind : ValueKind) (r : Option ValueKind) (b : Bool)
       → e ≡ view.Choose cs other → xs ≡ cs.items
       → d ≡ other.value → HasKind kinds (out-Expr V d) kind → IsTrue b ↔ ((0 < length xs) × Each_case kinds xs kind)
-      → r ≡ cond b (Some kind) None → IsKindOf kinds (out-Expr V e) r
+      → r ≡ cond b (Some kind) None → IsLevelKind kinds (out-Expr V e) r
   choice-arm e d xs cs other kind r b i j l h f g =
       let last : HasKind kinds (out-Expr V other.value) kind = in_box (Some kind) d other l h in
       let P : List (Expr V × Expr V) → Type 0 = λ z. IsTrue b ↔ ((0 < length z) × Each_case kinds z kind) in
@@ -238,8 +238,8 @@ module _ {V : Type 0} (kinds : V → ValueKind) where
   no_other cs other l f (k.choice {k = m} n c d) = f m d
 
   pub choice-none : (e d : Expr V) (cs : Vec (Expr V × Expr V) Global) (other : Box (Expr V) Global)
-      → e ≡ view.Choose cs other → d ≡ other.value → IsKindOf kinds (out-Expr V d) None
-      → IsKindOf kinds (out-Expr V e) None
+      → e ≡ view.Choose cs other → d ≡ other.value → IsLevelKind kinds (out-Expr V d) None
+      → IsLevelKind kinds (out-Expr V e) None
   choice-none e d cs other i j h =
       at None e (Choose cs other) (opened.opened-choice e cs other i)
       (λ l z. no_other cs other l (in_box None d other j h) z)
@@ -329,14 +329,14 @@ module _ {V : Type 0} (kinds : V → ValueKind) where
   each-begins es kind = record { each = k.none }
 
   pub each-goes-on : (es : List (Expr V)) (i : ℕ) (e : Expr V) (kind : ValueKind) (found : Option ValueKind) (b : Bool)
-      → i < length es → e ≡ get_or es i e → IsKindOf kinds (out-Expr V e) found
+      → i < length es → e ≡ get_or es i e → IsLevelKind kinds (out-Expr V e) found
       → IsTrue b ↔ (found ≡ Some kind) → b ≡ true → EachSoFar kinds es i kind → EachSoFar kinds es (i + 1) kind
   each-goes-on es i e kind found b h is f g t r = record {
     each = each-more kinds es i e kind h is ((is-kind kinds (out-Expr V e) found b kind f g).0 t) r.each;
   }
 
   pub each-fails : (es : List (Expr V)) (i : ℕ) (e : Expr V) (kind : ValueKind) (found : Option ValueKind) (b : Bool)
-      → i < length es → e ≡ get_or es i e → IsKindOf kinds (out-Expr V e) found
+      → i < length es → e ≡ get_or es i e → IsLevelKind kinds (out-Expr V e) found
       → IsTrue b ↔ (found ≡ Some kind) → b ≡ false → IsTrue false ↔ ((0 < length es) × Each kinds es kind)
   each-fails es i e kind found b h is f g t =
       ((λ z. cc), (λ z. let q = (is-kind kinds (out-Expr V e) found b kind f g).1 (each-at kinds es kind e z.1 (item-is-in es i e h is)) in cc))
@@ -349,14 +349,14 @@ module _ {V : Type 0} (kinds : V → ValueKind) where
   parts-begin ps = record { each = k.no_part }
 
   pub parts-go-on : (ps : List (Bool × Expr V)) (i : ℕ) (p : Bool × Expr V) (found : Option ValueKind) (b : Bool)
-      → i < length ps → p ≡ get_or ps i p → IsKindOf kinds (out-Expr V p.1) found
+      → i < length ps → p ≡ get_or ps i p → IsLevelKind kinds (out-Expr V p.1) found
       → IsTrue b ↔ (found ≡ Some Whole) → b ≡ true → PartsSoFar kinds ps i → PartsSoFar kinds ps (i + 1)
   parts-go-on ps i p found b h is f g t r = record {
     each = part-more kinds ps i p h is ((is-kind kinds (out-Expr V p.1) found b Whole f g).0 t) r.each;
   }
 
   pub parts-fail : (ps : List (Bool × Expr V)) (i : ℕ) (p : Bool × Expr V) (found : Option ValueKind) (b : Bool)
-      → i < length ps → p ≡ get_or ps i p → IsKindOf kinds (out-Expr V p.1) found
+      → i < length ps → p ≡ get_or ps i p → IsLevelKind kinds (out-Expr V p.1) found
       → IsTrue b ↔ (found ≡ Some Whole) → b ≡ false → IsTrue false ↔ ((0 < length ps) × Each_part kinds ps)
   parts-fail ps i p found b h is f g t =
       ((λ z. cc), (λ z. let q = (is-kind kinds (out-Expr V p.1) found b Whole f g).1 (part-at kinds ps p z.1 (item-is-in ps i p h is)) in cc))
@@ -371,8 +371,8 @@ module _ {V : Type 0} (kinds : V → ValueKind) where
   pub cases-go-on : (cs : List (Expr V × Expr V)) (i : ℕ) (c : Expr V × Expr V) (kind : ValueKind)
       (found given : Option ValueKind) (a b : Bool)
       → i < length cs → c ≡ get_or cs i c
-      → IsKindOf kinds (out-Expr V c.0) found → IsTrue a ↔ (found ≡ Some Truth) → a ≡ true
-      → IsKindOf kinds (out-Expr V c.1) given → IsTrue b ↔ (given ≡ Some kind) → b ≡ true
+      → IsLevelKind kinds (out-Expr V c.0) found → IsTrue a ↔ (found ≡ Some Truth) → a ≡ true
+      → IsLevelKind kinds (out-Expr V c.1) given → IsTrue b ↔ (given ≡ Some kind) → b ≡ true
       → CasesSoFar kinds cs i kind → CasesSoFar kinds cs (i + 1) kind
   cases-go-on cs i c kind found given a b h is f g t m n u r =
       record {
@@ -383,7 +383,7 @@ module _ {V : Type 0} (kinds : V → ValueKind) where
   pub test-fails : (cs : List (Expr V × Expr V)) (i : ℕ) (c : Expr V × Expr V) (kind : ValueKind)
       (found : Option ValueKind) (a : Bool)
       → i < length cs → c ≡ get_or cs i c
-      → IsKindOf kinds (out-Expr V c.0) found → IsTrue a ↔ (found ≡ Some Truth) → a ≡ false
+      → IsLevelKind kinds (out-Expr V c.0) found → IsTrue a ↔ (found ≡ Some Truth) → a ≡ false
       → IsTrue false ↔ ((0 < length cs) × Each_case kinds cs kind)
   test-fails cs i c kind found a h is f g t =
       ((λ z. cc), (λ z. let q = (is-kind kinds (out-Expr V c.0) found a Truth f g).1 (case-at kinds cs kind c z.1 (item-is-in cs i c h is)).0 in cc))
@@ -391,7 +391,7 @@ module _ {V : Type 0} (kinds : V → ValueKind) where
   pub value-fails : (cs : List (Expr V × Expr V)) (i : ℕ) (c : Expr V × Expr V) (kind : ValueKind)
       (given : Option ValueKind) (b : Bool)
       → i < length cs → c ≡ get_or cs i c
-      → IsKindOf kinds (out-Expr V c.1) given → IsTrue b ↔ (given ≡ Some kind) → b ≡ false
+      → IsLevelKind kinds (out-Expr V c.1) given → IsTrue b ↔ (given ≡ Some kind) → b ≡ false
       → IsTrue false ↔ ((0 < length cs) × Each_case kinds cs kind)
   value-fails cs i c kind given b h is f g t =
       ((λ z. cc), (λ z. let q = (is-kind kinds (out-Expr V c.1) given b kind f g).1 (case-at kinds cs kind c z.1 (item-is-in cs i c h is)).1 in cc))

@@ -15,7 +15,7 @@ use Rattle.typed_expr.specs.Sizes.{HasMoreThan}
 use Rattle.typed_expr.specs.Yields.{Yields, Some_yields, All_yield, Picks, Picks_parts}
 use Rattle.typed_expr.specs.Yields as y
 use Rattle.typed_expr.specs.Possible.{IsWide}
-use Rattle.typed_expr.specs.Evaluating.{Told, IsNext, SomeWide, Tallied, FoldYields, SomeStep, Folds, SumYields, PartWide, Sums, CaseWide, Took, PassesAll, Chosen}
+use Rattle.typed_expr.specs.Evaluating.{ToldTruth, IsNextOperand, SomeWide, Tallied, FoldYields, SomeStep, Folds, SumYields, PartWide, Sums, CaseWide, Took, PassesAll, Chosen}
 use Rattle.typed_expr.specs.Evaluating as ev
 use Rattle.typed_expr.specs.declared.expr.Expr.{Expr, out-Expr}
 use Rattle.typed_expr.specs.declared.fold.Step.{Step}
@@ -115,7 +115,7 @@ module _ {V : Type 0} (facts : V → Value → Type 0) where
   tallied-start b = record { one = ((λ h. cc), (λ d. elim d [ ])); all = ((λ h. y.none), (λ d. refl)) }
 
   pub tallied-more : (b one each one_more each_more other same : Bool) (es : List (Expr V)) (i : ℕ) (e : Expr V)
-      → i < length es → e ≡ get_or es i e → Told facts b other same (out-Expr V e)
+      → i < length es → e ≡ get_or es i e → ToldTruth facts b other same (out-Expr V e)
       → IsTrue one_more ↔ (IsTrue one ⊎ IsTrue other) → IsTrue each_more ↔ (IsTrue each × IsTrue same)
       → Tallied facts b one each (take i es) → Tallied facts b one_more each_more (take (i + 1) es)
   tallied-more b one each one_more each_more other same es i e h is told o a t =
@@ -208,7 +208,7 @@ module _ {V : Type 0} (facts : V → Value → Type 0) where
   pub fold-up : (s : Step) (first : Bool) (es : List (Expr V)) (i : ℕ) (e : Expr V) (so_far values : List Value)
       → i < length es → e ≡ get_or es i e → first ≡ is_nil (take i es)
       → HasExactly so_far (FoldYields facts s es i) → HasExactly values (Yields facts (out-Expr V e)) → (v : Value)
-      → IsNext s first so_far values v → FoldYields facts s es (i + 1) v
+      → IsNextOperand s first so_far values v → FoldYields facts s es (i + 1) v
   fold-up s first es i e so_far values h is f p q v m =
       let (vs, d, k) = p.sound m.number m.in_numbers in
       let all : Picks facts (take (i + 1) es) (vs ++ m.value ∷ []) =
@@ -224,7 +224,7 @@ module _ {V : Type 0} (facts : V → Value → Type 0) where
   pub fold-down : (s : Step) (first : Bool) (es : List (Expr V)) (i : ℕ) (e : Expr V) (so_far values : List Value)
       → i < length es → e ≡ get_or es i e → first ≡ is_nil (take i es)
       → HasExactly so_far (FoldYields facts s es i) → HasExactly values (Yields facts (out-Expr V e)) → (v : Value)
-      → FoldYields facts s es (i + 1) v → IsNext s first so_far values v
+      → FoldYields facts s es (i + 1) v → IsNextOperand s first so_far values v
   fold-down s first es i e so_far values h is f p q v (vs, d, k) =
       let l = last-pick (take i es) e vs (subst (λ (l : List (Expr V)). Picks facts l vs) (take_item es i e h is) d) in
       record {
@@ -240,7 +240,7 @@ module _ {V : Type 0} (facts : V → Value → Type 0) where
   pub fold-more : (s : Step) (first : Bool) (es : List (Expr V)) (i : ℕ) (e : Expr V) (so_far values new : List Value)
       → i < length es → e ≡ get_or es i e → first ≡ is_nil (take i es)
       → HasExactly so_far (FoldYields facts s es i) → HasExactly values (Yields facts (out-Expr V e))
-      → HasExactly new (IsNext s first so_far values) → HasExactly new (FoldYields facts s es (i + 1))
+      → HasExactly new (IsNextOperand s first so_far values) → HasExactly new (FoldYields facts s es (i + 1))
   fold-more s first es i e so_far values new h is f p q g = record {
     sound = λ v m. fold-up s first es i e so_far values h is f p q v (g.sound v m);
     complete = λ v m. g.complete v (fold-down s first es i e so_far values h is f p q v m);
@@ -346,7 +346,7 @@ module _ {V : Type 0} (facts : V → Value → Type 0) where
   pub sum-up : (ps : List (Bool × Expr V)) (i : ℕ) (p : Bool × Expr V) (so_far values : List Value) → i < length ps
       → p ≡ get_or ps i p
       → HasExactly so_far (SumYields facts ps i) → HasExactly values (Yields facts (out-Expr V p.1)) → (v : Value)
-      → IsNext (Part p.0) false so_far values v → SumYields facts ps (i + 1) v
+      → IsNextOperand (Part p.0) false so_far values v → SumYields facts ps (i + 1) v
   sum-up ps i p so_far values h is g q v m =
       let (vs, d, k) = g.sound m.number m.in_numbers in
       let all : Picks_parts facts (take (i + 1) ps) (vs ++ (p.0, m.value) ∷ []) =
@@ -362,7 +362,7 @@ module _ {V : Type 0} (facts : V → Value → Type 0) where
   pub sum-down : (ps : List (Bool × Expr V)) (i : ℕ) (p : Bool × Expr V) (so_far values : List Value) → i < length ps
       → p ≡ get_or ps i p
       → HasExactly so_far (SumYields facts ps i) → HasExactly values (Yields facts (out-Expr V p.1)) → (v : Value)
-      → SumYields facts ps (i + 1) v → IsNext (Part p.0) false so_far values v
+      → SumYields facts ps (i + 1) v → IsNextOperand (Part p.0) false so_far values v
   sum-down ps i p so_far values h is g q v (vs, d, k) =
       let l =
       last-part (take i ps) p vs
@@ -380,7 +380,7 @@ module _ {V : Type 0} (facts : V → Value → Type 0) where
   pub sum-more : (ps : List (Bool × Expr V)) (i : ℕ) (p : Bool × Expr V) (so_far values new : List Value)
       → i < length ps → p ≡ get_or ps i p
       → HasExactly so_far (SumYields facts ps i) → HasExactly values (Yields facts (out-Expr V p.1))
-      → HasExactly new (IsNext (Part p.0) false so_far values) → HasExactly new (SumYields facts ps (i + 1))
+      → HasExactly new (IsNextOperand (Part p.0) false so_far values) → HasExactly new (SumYields facts ps (i + 1))
   sum-more ps i p so_far values new h is g q n = record {
     sound = λ v m. sum-up ps i p so_far values h is g q v (n.sound v m);
     complete = λ v m. n.complete v (sum-down ps i p so_far values h is g q v m);
@@ -458,7 +458,7 @@ module _ {V : Type 0} (facts : V → Value → Type 0) where
   pub chosen-more : (cs : List (Expr V × Expr V)) (i : ℕ) (c : Expr V × Expr V) (set new : List Value)
       (passes passes_more can_pass can_take : Bool)
       → i < length cs → c ≡ get_or cs i c
-      → Told facts true can_pass can_take (out-Expr V c.0)
+      → ToldTruth facts true can_pass can_take (out-Expr V c.0)
       → IsTrue passes_more ↔ (IsTrue passes × IsTrue can_pass)
       → ((v : Value) → Contains new v → Contains set v ⊎ (PassesAll facts (take i cs) × Took facts (c ∷ []) v))
       → ((v : Value) → Contains set v ⊎ (PassesAll facts (take i cs) × Took facts (c ∷ []) v) → Contains new v)

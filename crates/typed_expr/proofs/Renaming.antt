@@ -1,7 +1,7 @@
 -- Expressions that differ in their variables alone.
 use Rattle.std.proofs.Common.{Bool, List}
 use Rattle.domains.specs.declared.Value.{Value}
-use Rattle.typed_expr.specs.PairsInside.{turned}
+use Rattle.typed_expr.specs.PairsInside.{turned_pairs}
 use Rattle.typed_expr.specs.Yields.{Level, Yields, Some_yields, All_yield, Picks, Picks_parts, Takes}
 use Rattle.typed_expr.specs.Yields as y
 use Rattle.typed_expr.specs.Mentions.{Mentions, Some_mentions, Parts_mention, Cases_mention}
@@ -60,7 +60,7 @@ module _ (V W : Type 0) (facts : V → Value → Type 0) (facts' : W → Value �
 -- a renaming, the other way round
 module _ {V W : Type 0} (same : V → W → Type 0) where
   mutual
-    pub renames_turned : {e : Level V} {f : Level W} → Renames same e f → Renames (turned same) f e
+    pub renames_turned : {e : Level V} {f : Level W} → Renames same e f → Renames (turned_pairs same) f e
     renames_turned r.constant = r.constant
     renames_turned (r.variable q) = r.variable q
     renames_turned (r.opposite q) = r.opposite (renames_turned q)
@@ -74,17 +74,17 @@ module _ {V W : Type 0} (same : V → W → Type 0) where
     renames_turned (r.count q) = r.count (all_turned q)
     renames_turned (r.choice p q) = r.choice (cases_turned p) (renames_turned q)
 
-    pub all_turned : {es : List (Expr V)} {fs : List (Expr W)} → All_rename same es fs → All_rename (turned same) fs es
+    pub all_turned : {es : List (Expr V)} {fs : List (Expr W)} → All_rename same es fs → All_rename (turned_pairs same) fs es
     all_turned r.none = r.none
     all_turned (r.one_and q qs) = r.one_and (renames_turned q) (all_turned qs)
 
     pub parts_turned : {ps : List (Bool × Expr V)} {qs : List (Bool × Expr W)} → Parts_rename same ps qs
-        → Parts_rename (turned same) qs ps
+        → Parts_rename (turned_pairs same) qs ps
     parts_turned r.no_part = r.no_part
     parts_turned (r.part q qs) = r.part (renames_turned q) (parts_turned qs)
 
     pub cases_turned : {cs : List (Expr V × Expr V)} {ds : List (Expr W × Expr W)} → Cases_rename same cs ds
-        → Cases_rename (turned same) ds cs
+        → Cases_rename (turned_pairs same) ds cs
     cases_turned r.no_case = r.no_case
     cases_turned (r.case_and p q qs) = r.case_and (renames_turned p) (renames_turned q) (cases_turned qs)
 

@@ -12,7 +12,7 @@ use Rattle.typed_expr.specs.Sizes.{HasMoreThan}
 use Rattle.typed_expr.specs.Yields.{Level, Yields}
 use Rattle.typed_expr.specs.Yields as y
 use Rattle.typed_expr.specs.Possible.{IsWide}
-use Rattle.typed_expr.specs.Evaluating.{Told, Tells, Evaluates, IsNext, Steps, SomeWide, Tallied, Tallies, FoldYields, SomeStep, Folds, SumYields, PartWide, Sums, CaseWide, Took, PassesAll, Chosen, Chooses, BranchYields, Joins}
+use Rattle.typed_expr.specs.Evaluating.{ToldTruth, TellsAnswer, Evaluates, IsNextOperand, Steps, SomeWide, Tallied, Tallies, FoldYields, SomeStep, Folds, SumYields, PartWide, Sums, CaseWide, Took, PassesAll, Chosen, Chooses, BranchYields, Joins}
 use Rattle.typed_expr.specs.Evaluating as ev
 use Rattle.typed_expr.specs.declared.expr.Expr.{Expr, out-Expr}
 use Rattle.typed_expr.specs.declared.fold.Step.{Step}
@@ -58,7 +58,7 @@ module _ {V : Type 0} (facts : V → Value → Type 0) (most : Option ℕ) where
 
   pub tally-goes-on : (b one each one_more each_more other same : Bool) (es : List (Expr V)) (i : ℕ) (e : Expr V)
       → i < length es → e ≡ get_or es i e
-      → TallySoFar facts most b one each es i → Tells facts most b (Ok (other, same)) (out-Expr V e)
+      → TallySoFar facts most b one each es i → TellsAnswer facts most b (Ok (other, same)) (out-Expr V e)
       → IsTrue one_more ↔ (IsTrue one ⊎ IsTrue other) → IsTrue each_more ↔ (IsTrue each × IsTrue same)
       → TallySoFar facts most b one_more each_more es (i + 1)
   tally-goes-on b one each one_more each_more other same es i e h is f q k a = record {
@@ -69,7 +69,7 @@ module _ {V : Type 0} (facts : V → Value → Type 0) (most : Option ℕ) where
   -- what an operand yields, as its set has it
   pub tell-of-set : (b other same : Bool) (set : List Value) (e : Level V) → Evaluates facts most (Ok set) e
       → IsTrue other ↔ Contains set (Truth (not b)) → IsTrue same ↔ Contains set (Truth b)
-      → Tells facts most b (Ok (other, same)) e
+      → TellsAnswer facts most b (Ok (other, same)) e
   tell-of-set b other same set e h p q = (
     record {
       opposite = ((λ m. h.0.sound (Truth (not b)) (p.0 m)), (λ d. p.1 (h.0.complete (Truth (not b)) d)));
@@ -105,7 +105,7 @@ module _ {V : Type 0} (facts : V → Value → Type 0) (most : Option ℕ) where
 
   pub fold-goes-on : (s : Step) (first : Bool) (es : List (Expr V)) (i : ℕ) (e : Expr V) (set values new : List Value)
       → i < length es → e ≡ get_or es i e → FoldSoFar facts most s first set es i
-      → Evaluates facts most (Ok values) (out-Expr V e) → Gathers most (Ok new) (IsNext s first set values)
+      → Evaluates facts most (Ok values) (out-Expr V e) → Gathers most (Ok new) (IsNextOperand s first set values)
       → FoldSoFar facts most s false new es (i + 1)
   fold-goes-on s first es i e set values new h is f q g =
       let exact : HasExactly new (FoldYields facts s es (i + 1)) =
@@ -127,10 +127,10 @@ module _ {V : Type 0} (facts : V → Value → Type 0) (most : Option ℕ) where
 
   pub fold-step-stop : (s : Step) (first : Bool) (es : List (Expr V)) (i : ℕ) (e : Expr V) (set values : List Value) (stop : Stop)
       → i < length es → e ≡ get_or es i e → FoldSoFar facts most s first set es i
-      → Evaluates facts most (Ok values) (out-Expr V e) → Gathers most (Err stop) (IsNext s first set values)
+      → Evaluates facts most (Ok values) (out-Expr V e) → Gathers most (Err stop) (IsNextOperand s first set values)
       → Folds facts most s (Err stop) es
   fold-step-stop s first es i e set values stop h is f q g =
-      stopped-up most (λ n. HasMoreThan n (IsNext s first set values))
+      stopped-up most (λ n. HasMoreThan n (IsNextOperand s first set values))
       (λ n. SomeWide facts es n ⊎ SomeStep (FoldYields facts s es) n)
       (λ n m. inr (record { place = i + 1; wide = more-than (fold-up facts s first es i e set values h is f.starts f.exact q.0) m })) stop g
 
@@ -172,7 +172,7 @@ module _ {V : Type 0} (facts : V → Value → Type 0) (most : Option ℕ) where
 
   pub sum-goes-on : (ps : List (Bool × Expr V)) (i : ℕ) (p : Bool × Expr V) (set values new : List Value)
       → i < length ps → p ≡ get_or ps i p → SumSoFar facts most set ps i
-      → Evaluates facts most (Ok values) (out-Expr V p.1) → Gathers most (Ok new) (IsNext (Part p.0) false set values)
+      → Evaluates facts most (Ok values) (out-Expr V p.1) → Gathers most (Ok new) (IsNextOperand (Part p.0) false set values)
       → SumSoFar facts most new ps (i + 1)
   sum-goes-on ps i p set values new h is f q g =
       let exact : HasExactly new (SumYields facts ps (i + 1)) =
@@ -193,10 +193,10 @@ module _ {V : Type 0} (facts : V → Value → Type 0) (most : Option ℕ) where
 
   pub sum-step-stop : (ps : List (Bool × Expr V)) (i : ℕ) (p : Bool × Expr V) (set values : List Value) (stop : Stop)
       → i < length ps → p ≡ get_or ps i p → SumSoFar facts most set ps i
-      → Evaluates facts most (Ok values) (out-Expr V p.1) → Gathers most (Err stop) (IsNext (Part p.0) false set values)
+      → Evaluates facts most (Ok values) (out-Expr V p.1) → Gathers most (Err stop) (IsNextOperand (Part p.0) false set values)
       → Sums facts most (Err stop) ps
   sum-step-stop ps i p set values stop h is f q g =
-      stopped-up most (λ n. HasMoreThan n (IsNext (Part p.0) false set values))
+      stopped-up most (λ n. HasMoreThan n (IsNextOperand (Part p.0) false set values))
       (λ n. PartWide facts ps n ⊎ SomeStep (SumYields facts ps) n)
       (λ n m. inr (record { place = i + 1; wide = more-than (sum-up facts ps i p set values h is f.exact q.0) m })) stop g
 
@@ -222,7 +222,7 @@ module _ {V : Type 0} (facts : V → Value → Type 0) (most : Option ℕ) where
   case_down : (cs : List (Expr V × Expr V)) (i : ℕ) (c : Expr V × Expr V) (set : List Value)
       (passes takes can_pass can_take : Bool)
       → ChoiceSoFar facts most set passes cs i
-      → Told facts true can_pass can_take (out-Expr V c.0) → (IsTrue takes → IsTrue passes × IsTrue can_take)
+      → ToldTruth facts true can_pass can_take (out-Expr V c.0) → (IsTrue takes → IsTrue passes × IsTrue can_take)
       → (v : Value) → BranchYields facts takes set (out-Expr V c.1) v
       → Contains set v ⊎ (PassesAll facts (take i cs) × Took facts (c ∷ []) v)
   case_down cs i c set passes takes can_pass can_take f t p v (inl m) = inl m
@@ -238,7 +238,7 @@ module _ {V : Type 0} (facts : V → Value → Type 0) (most : Option ℕ) where
   case_up : (cs : List (Expr V × Expr V)) (i : ℕ) (c : Expr V × Expr V) (set : List Value)
       (passes takes can_pass can_take : Bool)
       → ChoiceSoFar facts most set passes cs i
-      → Told facts true can_pass can_take (out-Expr V c.0) → (IsTrue passes × IsTrue can_take → IsTrue takes)
+      → ToldTruth facts true can_pass can_take (out-Expr V c.0) → (IsTrue passes × IsTrue can_take → IsTrue takes)
       → (v : Value) → Contains set v ⊎ (PassesAll facts (take i cs) × Took facts (c ∷ []) v)
       → BranchYields facts takes set (out-Expr V c.1) v
   case_up cs i c set passes takes can_pass can_take f t p v (inl m) = inl m
@@ -257,7 +257,7 @@ module _ {V : Type 0} (facts : V → Value → Type 0) (most : Option ℕ) where
   pub choice-goes-on : (cs : List (Expr V × Expr V)) (i : ℕ) (c : Expr V × Expr V) (set new : List Value)
       (passes takes can_pass can_take passes_more : Bool)
       → i < length cs → c ≡ get_or cs i c
-      → ChoiceSoFar facts most set passes cs i → Tells facts most true (Ok (can_pass, can_take)) (out-Expr V c.0)
+      → ChoiceSoFar facts most set passes cs i → TellsAnswer facts most true (Ok (can_pass, can_take)) (out-Expr V c.0)
       → Joins facts most (Ok new) takes set (out-Expr V c.1)
       → IsTrue takes ↔ (IsTrue passes × IsTrue can_take)
       → IsTrue passes_more ↔ (IsTrue passes × IsTrue can_pass)
@@ -284,7 +284,7 @@ module _ {V : Type 0} (facts : V → Value → Type 0) (most : Option ℕ) where
   pub case-branch-stop : (cs : List (Expr V × Expr V)) (i : ℕ) (c : Expr V × Expr V) (set : List Value)
       (passes takes can_pass can_take : Bool) (stop : Stop)
       → i < length cs → c ≡ get_or cs i c
-      → ChoiceSoFar facts most set passes cs i → Tells facts most true (Ok (can_pass, can_take)) (out-Expr V c.0)
+      → ChoiceSoFar facts most set passes cs i → TellsAnswer facts most true (Ok (can_pass, can_take)) (out-Expr V c.0)
       → IsTrue takes ↔ (IsTrue passes × IsTrue can_take)
       → Joins facts most (Err stop) takes set (out-Expr V c.1) → Chooses facts most (Err stop) cs
   case-branch-stop cs i c set passes takes can_pass can_take stop h is f t p g =

@@ -43,7 +43,7 @@ pub data Relates {V : Type 0} (facts : V → Value → Type 0) (most : Option �
       → Relates facts most q left r right
 
 -- a number of the first list, with one value of the second as the next operand
-pub record IsNext (s : Step) (first : Bool) (numbers values : List Value) (v : Value) : Type 0 where
+pub record IsNextOperand (s : Step) (first : Bool) (numbers values : List Value) (v : Value) : Type 0 where
   pub number : Value
   pub value : Value
   pub in_numbers : Contains numbers number
@@ -54,7 +54,7 @@ pub record IsNext (s : Step) (first : Bool) (numbers values : List Value) (v : V
 pub data Steps {V : Type 0} (facts : V → Value → Type 0) (most : Option ℕ) (s : Step) (first : Bool)
     (numbers : List Value) (r : Result (List Value) Stop) (e : Level V) : Type 0 where
   stepped : {values : List Value} → Evaluates facts most (Ok values) e
-      → Gathers most r (IsNext s first numbers values) → Steps facts most s first numbers r e
+      → Gathers most r (IsNextOperand s first numbers values) → Steps facts most s first numbers r e
   operand_stopped : {stop : Stop} → Evaluates facts most (Err stop) e → r ≡ Err stop
       → Steps facts most s first numbers r e
 
@@ -65,14 +65,14 @@ pub record SomeWide {V : Type 0} (facts : V → Value → Type 0) (es : List (Ex
   pub wide : IsWide facts most (out-Expr V expr)
 
 -- `other`: whether the expression yields the opposite of b; `this`: whether it yields b
-pub record Told {V : Type 0} (facts : V → Value → Type 0) (b other this : Bool) (e : Level V) : Type 0 where
+pub record ToldTruth {V : Type 0} (facts : V → Value → Type 0) (b other this : Bool) (e : Level V) : Type 0 where
   pub opposite : IsTrue other ↔ Yields facts e (Truth (not b))
   pub same : IsTrue this ↔ Yields facts e (Truth b)
 
 -- the answer says what is told, and nothing in the expression is too wide; or something in it is, or memory was refused
-abbrev pub Tells : {V : Type 0} → (V → Value → Type 0) → Option ℕ → Bool → Result (Bool × Bool) Stop → Level V → Type 0
-Tells facts most b (Ok r) e = Told facts b r.0 r.1 e × (AtLimit most (λ n. IsWide facts n e) → ⊥)
-Tells facts most b (Err stop) e = Stopped most (λ n. IsWide facts n e) stop
+abbrev pub TellsAnswer : {V : Type 0} → (V → Value → Type 0) → Option ℕ → Bool → Result (Bool × Bool) Stop → Level V → Type 0
+TellsAnswer facts most b (Ok r) e = ToldTruth facts b r.0 r.1 e × (AtLimit most (λ n. IsWide facts n e) → ⊥)
+TellsAnswer facts most b (Err stop) e = Stopped most (λ n. IsWide facts n e) stop
 
 -- one of the operands yields the one truth value, each yields the other
 pub record Tallied {V : Type 0} (facts : V → Value → Type 0) (b one_other each : Bool)

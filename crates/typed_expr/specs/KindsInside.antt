@@ -8,9 +8,9 @@ use Rattle.typed_expr.specs.declared.expr.ValueKind.{ValueKind}
 use Rattle.typed_expr.specs.Kinds.{kind_of, HasKind}
 
 -- the answer is the kind of the expression, or there is none
-abbrev pub IsKindOf : {V : Type 0} → (V → ValueKind) → Level V → Option ValueKind → Type 0
-IsKindOf kinds e None = (k : ValueKind) → HasKind kinds e k → ⊥
-IsKindOf kinds e (Some k) = HasKind kinds e k
+abbrev pub IsLevelKind : {V : Type 0} → (V → ValueKind) → Level V → Option ValueKind → Type 0
+IsLevelKind kinds e None = (k : ValueKind) → HasKind kinds e k → ⊥
+IsLevelKind kinds e (Some k) = HasKind kinds e k
 
 -- the facts give each variable values of its kind alone
 abbrev pub AreOfKinds : {V : Type 0} → (V → List Value) → (V → ValueKind) → Type 0

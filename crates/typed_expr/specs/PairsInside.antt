@@ -11,5 +11,5 @@ pub record Needs (V : Type 0) (P : V → Value → Type 0) (R : (V → Value →
   pub suffice : R (HasPair pairs)
 
 -- the same pairs, the other way round
-abbrev pub turned : {A B : Type 0} → (A → B → Type 0) → B → A → Type 0
-turned same b a = same a b
+abbrev pub turned_pairs : {A B : Type 0} → (A → B → Type 0) → B → A → Type 0
+turned_pairs same b a = same a b

@@ -9,15 +9,15 @@ abbrev pub Rows : Type 0
 Rows = List (Vec Value Global)
 
 -- the row that was looked up
-abbrev pub items_of : Option (Vec Value Global) → List Value
-items_of (Some row) = row.items
-items_of None = []
+abbrev pub row_values : Option (Vec Value Global) → List Value
+row_values (Some row) = row.items
+row_values None = []
 
 -- the values known of the variable of this number
-abbrev pub row_at : Rows → ℕ → List Value
-row_at rows n = items_of (slice_get rows n)
+abbrev pub known_row_at : Rows → ℕ → List Value
+known_row_at rows n = row_values (slice_get rows n)
 
 -- the first value of a row; false in an empty one
-abbrev pub first_of : List Value → Value
-first_of [] = Truth false
-first_of (v ∷ vs) = v
+abbrev pub first_of_row : List Value → Value
+first_of_row [] = Truth false
+first_of_row (v ∷ vs) = v

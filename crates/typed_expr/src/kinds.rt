@@ -4,7 +4,7 @@ ghost use Rattle.std.specs.Prelude.{◌≡◌, ◌<◌, ◌↔◌, IsTrue, Some,
 ghost use Rattle.typed_expr.specs.declared.expr.Expr.{out-Expr};
 ghost use Rattle.typed_expr.specs.declared.expr.ValueKind.{ValueKind};
 ghost use Rattle.typed_expr.specs.Kinds.{kind_of as kind_of_value, Compares, Each, Each_part, Each_case};
-ghost use Rattle.typed_expr.specs.KindsInside.{IsKindOf};
+ghost use Rattle.typed_expr.specs.KindsInside.{IsLevelKind};
 
 use crate::env::Env;
 use crate::expr::{Expr, Relation, ValueKind};
@@ -19,7 +19,7 @@ use domains::Value;
 /// of `Equal` and `Differs`, and all branches of a choice, have one kind.
 #[cycle(typed)]
 pub fn typed<V, E: Env<V>>(expr: &Expr<V>, env: &E) -> Option<ValueKind>
-    ensures { IsKindOf (E.kind_at env.now) (out-Expr V expr.now) result }
+    ensures { IsLevelKind (E.kind_at env.now) (out-Expr V expr.now) result }
 {
     match expr {
         Expr::Constant(v) => Some(kind_of(*v)),

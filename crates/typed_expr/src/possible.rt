@@ -7,7 +7,7 @@ ghost use Rattle.typed_expr.specs.Sets.{HasExactly, KeepsLimit};
 ghost use Rattle.typed_expr.specs.Yields.{Yields};
 ghost use Rattle.typed_expr.specs.YieldsInside.{facts_of};
 ghost use Rattle.typed_expr.specs.Possible.{IsWide};
-ghost use Rattle.typed_expr.specs.Evaluating.{Evaluates, Tells, Tallies, Steps, Folds, Sums, Chooses, Joins};
+ghost use Rattle.typed_expr.specs.Evaluating.{Evaluates, TellsAnswer, Tallies, Steps, Folds, Sums, Chooses, Joins};
 
 use crate::env::Env;
 use crate::expr::Expr;
@@ -140,7 +140,7 @@ fn truths<V, E: Env<V>>(
     most: Option<u32>,
     b: bool,
 ) -> Result<(bool, bool), Stop>
-    ensures { Tells (facts_of (E.facts_at env.now)) most b result (out-Expr V e.now) }
+    ensures { TellsAnswer (facts_of (E.facts_at env.now)) most b result (out-Expr V e.now) }
 {
     if most.is_none() {
         if let Expr::Variable(x) = e {

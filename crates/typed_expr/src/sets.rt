@@ -5,7 +5,7 @@ ghost use Rattle.domains.specs.Values.{whole_of};
 ghost use Rattle.domains.specs.declared.Value.TheVariants.{Whole};
 ghost use Rattle.typed_expr.specs.Folds.{next_of};
 ghost use Rattle.typed_expr.specs.Sets.{Gathers, HasExactly, KeepsLimit};
-ghost use Rattle.typed_expr.specs.Evaluating.{IsTruth, IsNext};
+ghost use Rattle.typed_expr.specs.Evaluating.{IsTruth, IsNextOperand};
 
 use crate::fold::{Step, next};
 use crate::value_set::{Stop, ValueSet};
@@ -111,7 +111,7 @@ pub(crate) fn stepped(
     values: &[Value],
     most: Option<u32>,
 ) -> Result<ValueSet, Stop>
-    ensures { Gathers most result (IsNext step first numbers.now values.now) }
+    ensures { Gathers most result (IsNextOperand step first numbers.now values.now) }
 {
     let count = numbers.len().saturating_mul(values.len());
     if count <= FEW {
@@ -133,7 +133,7 @@ fn few_stepped(
     values: &[Value],
     most: Option<u32>,
 ) -> Result<ValueSet, Stop>
-    ensures { Gathers most result (IsNext step first numbers.now values.now) }
+    ensures { Gathers most result (IsNextOperand step first numbers.now values.now) }
 {
     let mut set = ValueSet::new(alloc);
     for n in numbers {
@@ -152,7 +152,7 @@ fn results(
     numbers: &[Value],
     values: &[Value],
 ) -> Result<Vec<Value>, Memory>
-    ensures { IfOk result (λ all. HasExactly all.items (IsNext step first numbers.now values.now)) }
+    ensures { IfOk result (λ all. HasExactly all.items (IsNextOperand step first numbers.now values.now)) }
 {
     let mut all = Vec::new(alloc);
     for v in values {
@@ -171,7 +171,7 @@ fn add_results(
     v: Value,
 ) -> Result<(), Memory>
     ensures { OnOk result (HasExactly all.new.items
-        (λ w. Contains all.old.items w ⊎ IsNext step first numbers.now (v ∷ []) w)) }
+        (λ w. Contains all.old.items w ⊎ IsNextOperand step first numbers.now (v ∷ []) w)) }
 {
     for n in numbers {
         all.push(next_value(step, first, *n, v))?;
@@ -189,7 +189,7 @@ fn stepped_from(
     most: Option<u32>,
 ) -> Result<ValueSet, Stop>
     requires { KeepsLimit most set }
-    ensures { Gathers most result (λ v. Contains set v ⊎ IsNext step first (n ∷ []) values.now v) }
+    ensures { Gathers most result (λ v. Contains set v ⊎ IsNextOperand step first (n ∷ []) values.now v) }
 {
     let mut set = set;
     for v in values {

@@ -15,7 +15,7 @@ use Rattle.ar_syntax.specs.declared.members.Member.{Member, out-Member}
 use Rattle.ar_syntax.specs.declared.members.Setting.{Setting}
 use Rattle.parser_laws.specs.Expressions.{SameExpr, SameInstr}
 use Rattle.parser_laws.specs.Members.{SameSetting, SameMember}
-use Rattle.parser_laws.specs.Opened.{ExprForm, SameForm, InstrForm, SameStep, SameKind}
+use Rattle.parser_laws.specs.Opened.{ExprForm, SameForm, OpenedInstr, SameStep, SameKind}
 use Rattle.class_table.specs.Declaring.{MemberForm, Declared}
 use Rattle.class_table.specs.Members.{Site, owned_at}
 use Rattle.class_table.specs.declared.tables.Owned.{Owned}
@@ -149,14 +149,14 @@ module _ (opens : (e f : RawExpr) → SameExpr e f → SameForm (out-RawForm e.f
   -- Instructions
 
   module _ (steps : (i j : Instr) → SameInstr i j → SameStep (out-Instr i) (out-Instr j)) where
-    abbrev instr_level : InstrForm → ℕ
+    abbrev instr_level : OpenedInstr → ℕ
     instr_level x = step_size (map-Instr Instr ℕ instr_size x)
 
     instr_opened : (i : Instr) → instr_size i ≡ instr_level (out-Instr i)
     instr_opened i = fold_out-Instr ℕ step_size i
 
     module _ (n : ℕ) (small : (i j : Instr) → SameInstr i j → instr_size i < n → instr_size i ≡ instr_size j) where
-      steps_same : (x y : InstrForm) → SameStep x y → instr_level x < suc n → instr_level x ≡ instr_level y
+      steps_same : (x y : OpenedInstr) → SameStep x y → instr_level x < suc n → instr_level x ≡ instr_level y
       steps_same instr.Skip instr.Skip s h = refl
       steps_same (instr.Assign p e) (instr.Assign q f) s h = ap (λ (k : ℕ). 2 + k) (exprs_same e f s.1)
       steps_same (instr.Tie p q) (instr.Tie r t) s h = refl

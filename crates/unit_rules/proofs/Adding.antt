@@ -10,11 +10,11 @@ use Rattle.class_table.specs.declared.tables.Owned.{Owned}
 use Rattle.hierarchy.specs.Walks.{Reaches, Nothing, Loops}
 use Rattle.hierarchy.specs.WalksInside.{LeadsFrom}
 use Rattle.hierarchy.proofs.Outcomes.{leads_same}
-use Rattle.unit_rules.specs.Naming.{Entry, added, nothing, AddsNames, none, one_more, names_if, names_at_sites}
+use Rattle.unit_rules.specs.Naming.{NameEntry, added, nothing, AddsNames, none, one_more, names_if, names_at_sites}
 
 module _ {m : RootedModel} {units : List UnitPath} {u : UnitPath} where
   -- names are looked up, and then some more
-  pub adds_more : {old between new : List Entry} {xs : List ℕ} (ys : List ℕ) → AddsNames m units u old xs between
+  pub adds_more : {old between new : List NameEntry} {xs : List ℕ} (ys : List ℕ) → AddsNames m units u old xs between
       → AddsNames m units u between ys new → AddsNames m units u old (xs ++ ys) new
   adds_more {old = old} {new = new} {xs = xs} ys a none =
       subst (λ (zs : List ℕ). AddsNames m units u old zs new) (sym (append-nil xs)) a
@@ -23,18 +23,18 @@ module _ {m : RootedModel} {units : List UnitPath} {u : UnitPath} where
       (one_more (adds_more zs a b) c)
 
 -- an entry that was added is of one of the names, and is the unit that it leads to
-pub record IsAdded (m : RootedModel) (units : List UnitPath) (u : UnitPath) (xs : List ℕ) (e : Entry) : Type 0 where
+pub record IsAdded (m : RootedModel) (units : List UnitPath) (u : UnitPath) (xs : List ℕ) (e : NameEntry) : Type 0 where
   pub name : IsOneOf xs e.0.n
   pub unit : UnitPath
   pub stands : Stands units e.1.n unit
   pub leads : LeadsFrom m u e.0.n (Reaches unit)
 
 module _ {m : RootedModel} {units : List UnitPath} {u : UnitPath} where
-  is_added_more : {xs : List ℕ} {e : Entry} (ys : List ℕ) → IsAdded m units u xs e → IsAdded m units u (xs ++ ys) e
+  is_added_more : {xs : List ℕ} {e : NameEntry} (ys : List ℕ) → IsAdded m units u xs e → IsAdded m units u (xs ++ ys) e
   is_added_more {xs = xs} {e = e} ys a =
       record { name = one_left xs ys e.0.n a.name; unit = a.unit; stands = a.stands; leads = a.leads }
 
-  is_added_last : (xs : List ℕ) (x : ℕ) (e : Entry) (v : UnitPath) → e.0.n ≡ x → Stands units e.1.n v
+  is_added_last : (xs : List ℕ) (x : ℕ) (e : NameEntry) (v : UnitPath) → e.0.n ≡ x → Stands units e.1.n v
       → LeadsFrom m u x (Reaches v) → IsAdded m units u (xs ++ x ∷ []) e
   is_added_last xs x e v q s l = record {
     name = one_right xs (x ∷ []) e.0.n (subst (λ (n : ℕ). IsOneOf (x ∷ []) n) (sym q) (one_first x []));
@@ -43,7 +43,7 @@ module _ {m : RootedModel} {units : List UnitPath} {u : UnitPath} where
     leads = subst (λ (n : ℕ). LeadsFrom m u n (Reaches v)) (sym q) l;
   }
 
-  pub adds_right : {xs : List ℕ} {new : List Entry} → AddsNames m units u [] xs new → (e : Entry) → IsOneOf new e
+  pub adds_right : {xs : List ℕ} {new : List NameEntry} → AddsNames m units u [] xs new → (e : NameEntry) → IsOneOf new e
       → IsAdded m units u xs e
   adds_right none e o = absurd (one_none e o)
   adds_right (one_more {x = x} a (nothing n)) e o = is_added_more (x ∷ []) (adds_right a e o)
@@ -51,14 +51,14 @@ module _ {m : RootedModel} {units : List UnitPath} {u : UnitPath} where
       elim (one_split between (f ∷ []) e o) [
         | inl p ↦ is_added_more (x ∷ []) (adds_right a e p)
         | inr p ↦ elim (one_cases f [] e p) [
-          | inl r ↦ subst (λ (z : Entry). IsAdded m units u all z) r (is_added_last xs x f v q s l)
+          | inl r ↦ subst (λ (z : NameEntry). IsAdded m units u all z) r (is_added_last xs x f v q s l)
           | inr r ↦ absurd (one_none e r)
         ]
       ]
 
   -- a name that leads to a unit has an entry
-  pub adds_all : {xs : List ℕ} {new : List Entry} → AddsNames m units u [] xs new → (x : ℕ) (v : UnitPath)
-      → IsOneOf xs x → LeadsFrom m u x (Reaches v) → (e : Entry) × IsOneOf new e × (e.0.n ≡ x)
+  pub adds_all : {xs : List ℕ} {new : List NameEntry} → AddsNames m units u [] xs new → (x : ℕ) (v : UnitPath)
+      → IsOneOf xs x → LeadsFrom m u x (Reaches v) → (e : NameEntry) × IsOneOf new e × (e.0.n ≡ x)
   adds_all none x v o l = absurd (one_none x o)
   adds_all (one_more {xs = xs} {x = y} a (nothing n)) x v o l = elim (one_split xs (y ∷ []) x o) [
     | inl p ↦ adds_all a x v p l

@@ -30,7 +30,7 @@ use Rattle.hierarchy.proofs.Apart.{members_apart, named_here}
 use Rattle.hierarchy.proofs.Outcomes.{leads_same}
 use Rattle.hierarchy.proofs.Things.{flat_origin, flat_one}
 use Rattle.unit_rules.specs.Statements.{HasPath, clones, embeds, WalkEnds, EndsIn}
-use Rattle.unit_rules.specs.Naming.{statement_form, statement_of, EndsSo, ends, SiteEndsSo, owned, SitesEndSo, broken_so}
+use Rattle.unit_rules.specs.Naming.{statement_form, statement_of, EndsWalk, ends, SiteEndsSo, owned, SitesEndSo, broken_so}
 use Rattle.unit_rules.proofs.Named.{declared_plain}
 
 -- One statement
@@ -40,28 +40,28 @@ not_before_itself p (inl h) = omega (arith, h)
 not_before_itself p (inr h) = let k = h.1 in omega (arith, k)
 
 pub ends_none : {m : RootedModel} {u : UnitPath} {o : WalkOutcome} (s : Option (Path × ℕ)) → s ≡ None
-    → IsEarliest (EndsSo m u o s) None
+    → IsEarliest (EndsWalk m u o s) None
 ends_none None e = nowhere (λ p h. elim h [ ])
 ends_none (Some s) e = cc e
 
 only_place : {m : RootedModel} {u : UnitPath} {o : WalkOutcome} {p : Path} {x : ℕ} {q : Place}
-    → EndsSo m u o (Some (p, x)) q → q ≡ p.at
+    → EndsWalk m u o (Some (p, x)) q → q ≡ p.at
 only_place (ends l) = refl
 
 pub ends_here : {m : RootedModel} {u : UnitPath} {o : WalkOutcome} (s : Option (Path × ℕ)) (p : Path) (x : ℕ)
-    → Some (p, x) ≡ s → LeadsFrom m u x o → IsEarliest (EndsSo m u o s) (Some p.at)
+    → Some (p, x) ≡ s → LeadsFrom m u x o → IsEarliest (EndsWalk m u o s) (Some p.at)
 ends_here {m = m} {u = u} {o = o} s p x e l =
-    subst (λ (t : Option (Path × ℕ)). IsEarliest (EndsSo m u o t) (Some p.at)) e
+    subst (λ (t : Option (Path × ℕ)). IsEarliest (EndsWalk m u o t) (Some p.at)) e
     (there (ends l) (λ q b h. not_before_itself p.at (subst (λ (r : Place). IsEarlier r p.at) (only_place h) b)))
 
 no_end : {m : RootedModel} {u : UnitPath} {o r : WalkOutcome} {p : Path} {x : ℕ} {q : Place} → LeadsFrom m u x r
-    → (o ≡ r → ⊥) → EndsSo m u o (Some (p, x)) q → ⊥
+    → (o ≡ r → ⊥) → EndsWalk m u o (Some (p, x)) q → ⊥
 no_end l n (ends k) = n (leads_same k l)
 
 pub ends_other : {m : RootedModel} {u : UnitPath} {o : WalkOutcome} (r : WalkOutcome) (s : Option (Path × ℕ)) (p : Path)
-    (x : ℕ) → Some (p, x) ≡ s → LeadsFrom m u x r → (o ≡ r → ⊥) → IsEarliest (EndsSo m u o s) None
+    (x : ℕ) → Some (p, x) ≡ s → LeadsFrom m u x r → (o ≡ r → ⊥) → IsEarliest (EndsWalk m u o s) None
 ends_other {m = m} {u = u} {o = o} r s p x e l n =
-    subst (λ (t : Option (Path × ℕ)). IsEarliest (EndsSo m u o t) None) e (nowhere (λ q h. no_end l n h))
+    subst (λ (t : Option (Path × ℕ)). IsEarliest (EndsWalk m u o t) None) e (nowhere (λ q h. no_end l n h))
 
 pub broken_reaches : (b : Bool) (v : UnitPath) → broken_so b ≡ Reaches v → ⊥
 broken_reaches true v e = cc e
@@ -78,7 +78,7 @@ nothing_not_looping false n e = cc e
 -- The member at a site
 
 owned_back : {m : RootedModel} {u : UnitPath} {o : WalkOutcome} {w : Owned} {p : Place} → SiteEndsSo m u o (Some w) p
-    → EndsSo m u o (statement_of w) p
+    → EndsWalk m u o (statement_of w) p
 owned_back (owned h) = h
 
 pub site_none : {m : RootedModel} {u : UnitPath} {o : WalkOutcome} (t : Option Owned) → None ≡ t
@@ -87,7 +87,7 @@ site_none None e = nowhere (λ p h. elim h [ ])
 site_none (Some w) e = cc e
 
 pub site_some : {m : RootedModel} {u : UnitPath} {o : WalkOutcome} (t : Option Owned) (w : Owned) (r : Option Place)
-    → Some w ≡ t → IsEarliest (EndsSo m u o (statement_of w)) r → IsEarliest (SiteEndsSo m u o t) r
+    → Some w ≡ t → IsEarliest (EndsWalk m u o (statement_of w)) r → IsEarliest (SiteEndsSo m u o t) r
 site_some {m = m} {u = u} {o = o} t w r e h =
     subst (λ (z : Option Owned). IsEarliest (SiteEndsSo m u o z) r) e
     (earliest_same r (λ p k. owned k) (λ p k. owned_back k) h)
@@ -174,7 +174,7 @@ kind_here {m = m} k u g o = ap (option_map (λ (h : NamedMember). h.kind))
 statement_ends : {m : RootedModel} {u : UnitPath} {o : WalkOutcome} → KeepsTextRules m → (s : Site)
     → IsOneOf (members_at m u) s
     → (w : Owned) → owned_at m.declared s ≡ Some w → (t : Option (Path × ℕ)) → statement_of w ≡ t → (p : Place)
-    → EndsSo m u o t p → EndsIn m u o p
+    → EndsWalk m u o t p → EndsIn m u o p
 statement_ends k s i (Nested y at b) e None q p h = elim h [ ]
 statement_ends k s i (Nested y at b) e (Some t) q p h = cc q
 statement_ends k s i (Plain w) e None q p h = elim h [ ]
@@ -193,7 +193,7 @@ statement_ends {m = m} {u = u} {o = o} k s i (Plain w) e (Some (path, x)) q p h 
       place = only_place h;
     }
   where
-    ended : {p : Place} → EndsSo m u o (Some (path, x)) p → LeadsFrom m u x o
+    ended : {p : Place} → EndsWalk m u o (Some (path, x)) p → LeadsFrom m u x o
     ended (ends l) = l
 
 pub unit_to : {m : RootedModel} {u : UnitPath} {o : WalkOutcome} → KeepsTextRules m → (p : Place)
@@ -218,9 +218,9 @@ unit_back {m = m} {u = u} {o = o} k p h =
     led : LeadsFrom m u h.given.name o
     led = subst (λ z. NameLeads m [] u h.given.name z o) (sym (kind_here k u h.given h.is_given)) h.comes
 
-    at : (t : Option (Path × ℕ)) → t ≡ Some (h.path, h.given.name) → EndsSo m u o t p
-    at t e = subst (λ z. EndsSo m u o z p) (sym e)
-        (subst (λ (q : Place). EndsSo m u o (Some (h.path, h.given.name)) q) (sym h.place) (ends led))
+    at : (t : Option (Path × ℕ)) → t ≡ Some (h.path, h.given.name) → EndsWalk m u o t p
+    at t e = subst (λ z. EndsWalk m u o z p) (sym e)
+        (subst (λ (q : Place). EndsWalk m u o (Some (h.path, h.given.name)) q) (sym h.place) (ends led))
 
     go : (s : Site) (t : Option Owned) → IsOneOf (names_of m.declared s t) h.given → SiteEndsSo m u o t p
     go s None i = absurd (one_none h.given i)

@@ -23,7 +23,7 @@ use Rattle.hierarchy.specs.ModelsInside.{IsRootedTable, sites_kept}
 use Rattle.unit_rules.specs.TypingInside.{IsFound, none, some}
 use Rattle.unit_rules.specs.declared.settables.Settable.{Settable}
 use Rattle.unit_rules.specs.declared.settables.Settable.TheVariants as settable
-use Rattle.unit_rules.specs.Settables.{settable_of, variable_of, one_entry, entries_of}
+use Rattle.unit_rules.specs.Settables.{settable_of, variable_set, one_entry, settable_entries}
 
 -- the entries of these names, where each is this
 abbrev pub same_entries : Option Settable → List (NameId × Place) → List (ℕ × Settable)
@@ -35,20 +35,20 @@ no_entries (n ∷ ns) = no_entries ns
 
 -- the entries of a declaration
 pub declared_entries : (s : Site) (kind : Option MemberKind) (names : List (NameId × Place))
-    → entries_of (all_named s kind names) ≡ same_entries (option_and_then settable_of kind) names
+    → settable_entries (all_named s kind names) ≡ same_entries (option_and_then settable_of kind) names
 declared_entries s None names = sym (no_entries names)
 declared_entries s (Some k) [] = refl
 declared_entries s (Some k) (n ∷ ns) =
     ap (λ (es : List (ℕ × Settable)). one_entry n.0.n (settable_of k) ++ es) (declared_entries s (Some k) ns)
 
-pub entries_join : (xs ys : List NamedMember) → entries_of (xs ++ ys) ≡ entries_of xs ++ entries_of ys
+pub entries_join : (xs ys : List NamedMember) → settable_entries (xs ++ ys) ≡ settable_entries xs ++ settable_entries ys
 entries_join xs ys = flat_map-append (λ (g : NamedMember). one_entry g.name (settable_of g.kind)) xs ys
 
 -- those of one member more
 pub sites_next : (d : Declared) (xs : List Site) (x : Site)
-    → entries_of (named_at d (xs ++ x ∷ [])) ≡ entries_of (named_at d xs) ++ entries_of (names_of d x (owned_at d x))
+    → settable_entries (named_at d (xs ++ x ∷ [])) ≡ settable_entries (named_at d xs) ++ settable_entries (names_of d x (owned_at d x))
 sites_next d xs x =
-    ap entries_of (flat_map-append (λ (s : Site). names_of d s (owned_at d s)) xs (x ∷ [])
+    ap settable_entries (flat_map-append (λ (s : Site). names_of d s (owned_at d s)) xs (x ∷ [])
     ∙ ap (λ (gs : List NamedMember). named_at d xs ++ gs) (append-nil (names_of d x (owned_at d x))))
     ∙ entries_join (named_at d xs) (names_of d x (owned_at d x))
 
@@ -78,7 +78,7 @@ module _ (m : RootedModel) (classes : Classes) (table : IsRootedTable m classes)
 module _ (symbols : List ℕ) (s : Site) (f : TypeForm) (settings : List Setting) where
   -- what the names of a declaration are, by the type that was found
   pub kind_domain : (t : Option NamedType) (v : Domain) → IsFound symbols t (Some (types.Domain v))
-      → option_and_then settable_of (option_map (λ (u : NamedType). member_kind_of s f u settings) t) ≡ variable_of
+      → option_and_then settable_of (option_map (λ (u : NamedType). member_kind_of s f u settings) t) ≡ variable_set
       settings
   kind_domain t v (some (domain h)) = refl
 

@@ -22,20 +22,20 @@ use Rattle.hierarchy.specs.Units.{UnitPath, names_at}
 use Rattle.hierarchy.specs.Tie.{IsOutline}
 use Rattle.hierarchy.specs.declared.outline.Outline.{Outline}
 use Rattle.unit_rules.specs.Sizes.{owned_size, unit_size, tree_nodes}
-use Rattle.unit_rules.specs.Counting.{AreCounts, AreOwn, AreAt, AreOfBody, nodes_at}
+use Rattle.unit_rules.specs.Counting.{AreMemberCounts, AreOwn, AreAt, AreOfBody, nodes_at}
 use Rattle.unit_rules.specs.declared.counts.Counts.{Counts}
 use Rattle.unit_rules.proofs.Sums.{sum_join, sum_next}
 
 -- two counts that are read as others are
-pub counts_same : (gs hs : List NamedMember) (n k : ℕ) (c : Counts) → gs ≡ hs → n ≡ k → AreCounts gs n c
-    → AreCounts hs k c
-counts_same gs hs n k c e i h = subst (λ (xs : List NamedMember). AreCounts xs k c) e
-    (subst (λ (m : ℕ). AreCounts gs m c) i h)
+pub counts_same : (gs hs : List NamedMember) (n k : ℕ) (c : Counts) → gs ≡ hs → n ≡ k → AreMemberCounts gs n c
+    → AreMemberCounts hs k c
+counts_same gs hs n k c e i h = subst (λ (xs : List NamedMember). AreMemberCounts xs k c) e
+    (subst (λ (m : ℕ). AreMemberCounts gs m c) i h)
 
 module _ (d : Declared) where
   -- the counts at joined sites
   pub at_join : (xs ys : List Site) (c : Counts)
-      → AreCounts (named_at d xs ++ named_at d ys) (nodes_at d xs + nodes_at d ys) c → AreAt d (xs ++ ys) c
+      → AreMemberCounts (named_at d xs ++ named_at d ys) (nodes_at d xs + nodes_at d ys) c → AreAt d (xs ++ ys) c
   at_join xs ys c h =
       counts_same _ (named_at d (xs ++ ys)) _ (nodes_at d (xs ++ ys)) c
       (sym (flat_map-append (λ (s : Site). names_of d s (owned_at d s)) xs ys))
@@ -43,22 +43,22 @@ module _ (d : Declared) where
 
   -- the counts at one site, by the member that is there
   pub at_one : (s : Site) (o : Option Owned) (c : Counts) → owned_at d s ≡ o
-      → AreCounts (names_of d s o) (owned_size o) c → AreAt d (s ∷ []) c
+      → AreMemberCounts (names_of d s o) (owned_size o) c → AreAt d (s ∷ []) c
   at_one s o c e h =
       let n : owned_size (owned_at d s) ≡ 0 + owned_size (owned_at d s) = omega arith in
       counts_same (names_of d s (owned_at d s)) (named_at d (s ∷ [])) _ (nodes_at d (s ∷ [])) c
       (sym (append-nil (names_of d s (owned_at d s)))) n
-      (subst (λ (p : Option Owned). AreCounts (names_of d s p) (owned_size p) c) (sym e) h)
+      (subst (λ (p : Option Owned). AreMemberCounts (names_of d s p) (owned_size p) c) (sym e) h)
 
 module _ (d : Declared) (bodies : List Body) (rows : List (Vec Counts Global)) (shown : Along IsBodyOf bodies d.bodies)
     (own : Along (AreOwn d) bodies rows) where
   -- there is no such body, no such member of it, or the member is there
-  pub no_row : (site : BodyId × ℕ) (c : Counts) → length rows ≤ site.0.n → AreCounts [] 0 c
+  pub no_row : (site : BodyId × ℕ) (c : Counts) → length rows ≤ site.0.n → AreMemberCounts [] 0 c
       → AreAt d (site_of site ∷ []) c
   no_row site c l h = let e = along_length bodies rows own in at_one d (site_of site) None c (sym (site_past d bodies shown site.0.n site.1 (omega arith))) h
 
   pub no_place : (site : BodyId × ℕ) (row : Vec Counts Global) (c : Counts) → Stands rows site.0.n row
-      → length row.items ≤ site.1 → AreCounts [] 0 c → AreAt d (site_of site ∷ []) c
+      → length row.items ≤ site.1 → AreMemberCounts [] 0 c → AreAt d (site_of site ∷ []) c
   no_place site row c s l h =
       let w = along_back bodies rows own site.0.n row s in
       let e = along_length w.0.own.items row.items w.2 in
@@ -77,7 +77,7 @@ module _ (d : Declared) (bodies : List Body) (rows : List (Vec Counts Global)) (
 module _ (m : RootedModel) (classes : Classes) (counts : List Counts) (table : IsRootedTable m classes)
     (bodies : Along (AreOfBody m.declared) classes.bodies.items counts) where
   -- there is no such body, or it is there
-  pub no_body : (b : ℕ) (c : Counts) → length counts ≤ b → AreCounts [] 0 c
+  pub no_body : (b : ℕ) (c : Counts) → length counts ≤ b → AreMemberCounts [] 0 c
       → AreAt m.declared (unwrap_or (slice_get m.members b) []) c
   no_body b c l h =
       let n = along_length classes.bodies.items counts bodies in
@@ -98,10 +98,10 @@ module _ (m : RootedModel) (units : List UnitPath) (outlines : List Outline)
     (along : Along (IsOutline m units) units outlines) where
   -- the counts of the units so far, and of one more
   pub units_next : (i : ℕ) (o : Outline) (c : Counts) → Stands outlines i o
-      → AreCounts (flat_map (names_at m) (take i units) ++ named_at m.declared
+      → AreMemberCounts (flat_map (names_at m) (take i units) ++ named_at m.declared
       (unwrap_or (slice_get m.members o.body.n) []))
       (tree_nodes m (take i units) + nodes_at m.declared (unwrap_or (slice_get m.members o.body.n) [])) c
-      → AreCounts (flat_map (names_at m) (take (i + 1) units)) (tree_nodes m (take (i + 1) units)) c
+      → AreMemberCounts (flat_map (names_at m) (take (i + 1) units)) (tree_nodes m (take (i + 1) units)) c
   units_next i o c s h =
       let w = along_back units outlines along i o s in
       let e = ap (λ (b : ℕ). unwrap_or (slice_get m.members b) []) w.2.body in

@@ -15,16 +15,16 @@ use Rattle.unit_walks.specs.Forms.{same_pair}
 use Rattle.unit_walks.proofs.TableSteps.{pair_apart}
 use Rattle.unit_rules.specs.declared.settables.Settable.{Settable}
 use Rattle.unit_rules.specs.declared.settables.Settables.{Settables}
-use Rattle.unit_rules.specs.Settables.{settable_of, one_entry, entries_of, kept_at, Adds, AreSettables, AreSettablesTo}
+use Rattle.unit_rules.specs.Settables.{settable_of, one_entry, settable_entries, kept_at, AddsSettables, AreSettables, AreSettablesTo}
 
 module _ (b : ℕ) where
   -- nothing was added
-  pub adds_none : (t : Settables) → Adds b [] t t
+  pub adds_none : (t : Settables) → AddsSettables b [] t t
   adds_none t = record { found = λ c x s h. inl h; kept = λ c x s h. (s, h); all = λ x s o. absurd (one_none (x, s) o) }
 
   -- some entries were added, and then some more
-  pub adds_more : (xs ys : List (ℕ × Settable)) (old mid new : Settables) → Adds b xs old mid → Adds b ys mid new
-      → Adds b (xs ++ ys) old new
+  pub adds_more : (xs ys : List (ℕ × Settable)) (old mid new : Settables) → AddsSettables b xs old mid → AddsSettables b ys mid new
+      → AddsSettables b (xs ++ ys) old new
   adds_more xs ys old mid new a e = record {
     found = λ c x s h. elim (e.found c x s h) [
       | inl p ↦ elim (a.found c x s p) [ inl q ↦ inl q | inr q ↦ inr (q.0, one_left xs ys (x, s) q.1) ]
@@ -59,7 +59,7 @@ module _ (b : ℕ) where
     kept_here c y r h (inl e) (inr n) = (r, apart c y (λ q. n q.1) ∙ h)
     kept_here c y r h (inr n) f = (r, apart c y (λ q. n q.0) ∙ h)
 
-    pub adds_one : Adds b ((x, s) ∷ []) old new
+    pub adds_one : AddsSettables b ((x, s) ∷ []) old new
     adds_one = record {
       found = λ c y r h. found_here c y r h (cases_eq c b) (cases_eq y x);
       kept = λ c y r h. kept_here c y r h (cases_eq c b) (cases_eq y x);
@@ -74,26 +74,26 @@ module _ (b : ℕ) where
 module _ (m : RootedModel) (units : List UnitPath) where
   -- the entries of the body of one unit more
   pub settables_next : (i b : ℕ) (u : UnitPath) (old new : Settables) → Stands units i u → b ≡ body_of m u
-      → AreSettablesTo m units i old → Adds b (entries_of (names_in m b)) old new → AreSettablesTo m units (i + 1) new
+      → AreSettablesTo m units i old → AddsSettables b (settable_entries (names_in m b)) old new → AreSettablesTo m units (i + 1) new
   settables_next i b u old new s e h a = record {
     right = λ c x r k. elim (a.found c x r k) [
       | inl p ↦ h.right c x r p
-      | inr p ↦ subst (λ (z : ℕ). IsOneOf (entries_of (names_in m z)) (x, r)) (sym p.0) p.1
+      | inr p ↦ subst (λ (z : ℕ). IsOneOf (settable_entries (names_in m z)) (x, r)) (sym p.0) p.1
     ];
     all = λ k v x r l t o. go k v x r l t o (cases_eq k i);
   }
     where
       go : (k : ℕ) (v : UnitPath) (x : ℕ) (r : Settable) → k < i + 1 → Stands units k v
-          → IsOneOf (entries_of (names_at m v)) (x, r) → (k ≡ i) ⊎ (k ≡ i → ⊥)
+          → IsOneOf (settable_entries (names_at m v)) (x, r) → (k ≡ i) ⊎ (k ≡ i → ⊥)
           → (t : Settable) × (kept_at new (body_of m v) x ≡ Some t)
       go k v x r l t o (inr n) = (let w = h.all k v x r (omega arith) t o in a.kept (body_of m v) x w.0 w.1)
       go k v x r l t o (inl q) =
           let same : v ≡ u = stands_one units i v u (subst (λ (z : ℕ). Stands units z v) q t) s in
           let body : b ≡ body_of m v = e ∙ ap (body_of m) (sym same) in
           subst (λ (z : ℕ). (t : Settable) × (kept_at new z x ≡ Some t)) body
-          (a.all x r (subst (λ (z : ℕ). IsOneOf (entries_of (names_in m z)) (x, r)) (sym body) o))
+          (a.all x r (subst (λ (z : ℕ). IsOneOf (settable_entries (names_in m z)) (x, r)) (sym body) o))
 
-  entry_given : (gs : List NamedMember) (x : ℕ) (s : Settable) → IsOneOf (entries_of gs) (x, s)
+  entry_given : (gs : List NamedMember) (x : ℕ) (s : Settable) → IsOneOf (settable_entries gs) (x, s)
       → (k : ℕ) × (g : NamedMember) × Stands gs k g × (g.name ≡ x) × (settable_of g.kind ≡ Some s)
   entry_given gs x s o =
       let w = flat_one (λ (g : NamedMember). one_entry g.name (settable_of g.kind)) gs (x, s) o in
@@ -107,7 +107,7 @@ module _ (m : RootedModel) (units : List UnitPath) where
       ]
 
   given_entry : (gs : List NamedMember) (g : NamedMember) (s : Settable) → IsOneOf gs g → settable_of g.kind ≡ Some s
-      → IsOneOf (entries_of gs) (g.name, s)
+      → IsOneOf (settable_entries gs) (g.name, s)
   given_entry gs g s o e = one_flat (λ (h : NamedMember). one_entry h.name (settable_of h.kind)) gs o.place g
       (g.name, s) o.stands
       (subst (λ (r : Option Settable). IsOneOf (one_entry g.name r) (g.name, s)) (sym e) (one_first (g.name, s) []))

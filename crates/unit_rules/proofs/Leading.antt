@@ -23,11 +23,11 @@ use Rattle.unit_rules.specs.Rules.{IsSettingTarget, parameter, init, reset, insi
 use Rattle.unit_rules.specs.declared.settables.Settable.{Settable}
 use Rattle.unit_rules.specs.declared.settables.Settable.TheVariants as settable
 use Rattle.unit_rules.specs.declared.settables.Settables.{Settables}
-use Rattle.unit_rules.specs.Settables.{state_or_flow, variable_of, settable_of, kept_at, AreSettables}
+use Rattle.unit_rules.specs.Settables.{state_or_flow, variable_set, settable_of, kept_at, AreSettables}
 
 -- Kinds
 
-of_flow : (settings : List Setting) → is_flow settings ≡ true → variable_of settings ≡ Some settable.Flow
+of_flow : (settings : List Setting) → is_flow settings ≡ true → variable_set settings ≡ Some settable.Flow
 of_flow settings e = ap (λ (b : Bool). state_or_flow b (is_flow settings)) (no_state settings e)
     ∙ ap (state_or_flow false) e
 

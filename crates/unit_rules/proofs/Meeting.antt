@@ -9,7 +9,7 @@ use Rattle.ar_base.proofs.Standing.{stands_one}
 use Rattle.ar_syntax.specs.declared.members.Setting.{Setting}
 use Rattle.hierarchy.specs.Settings.{TargetWord, Named, Init, Reset, target_of}
 use Rattle.unit_rules.specs.Wrong.{IsSetBefore}
-use Rattle.unit_rules.specs.Repeats.{code_of, was_met, IsMet, HaveMet, MeetsOne}
+use Rattle.unit_rules.specs.Repeats.{code_of, was_met, IsTargetMet, HaveMet, MeetsOne}
 use Rattle.unit_rules.specs.declared.repeats.Targets.{Targets}
 
 -- words of one number are one
@@ -59,7 +59,7 @@ module _ (settings : List Setting) (i : ℕ) (s : Setting) (there : Stands setti
   }
     where
       to : (q : Vec ℕ Global) → was_met new q ≡ true → (b : Bool) → pointwise nat_eq key.items q.items ≡ b
-          → IsMet settings (i + 1) q.items
+          → IsTargetMet settings (i + 1) q.items
       to q e true f = record {
         j = i;
         before = omega arith;
@@ -74,7 +74,7 @@ module _ (settings : List Setting) (i : ℕ) (s : Setting) (there : Stands setti
           let l = w.before in
           record { j = w.j; before = omega (arith, l); setting = w.setting; stands = w.stands; same = w.same }
 
-      from : (q : Vec ℕ Global) (w : IsMet settings (i + 1) q.items) → (w.j ≡ i) ⊎ (w.j ≡ i → ⊥) → was_met new q ≡ true
+      from : (q : Vec ℕ Global) (w : IsTargetMet settings (i + 1) q.items) → (w.j ≡ i) ⊎ (w.j ≡ i → ⊥) → was_met new q ≡ true
       from q w (inl m) =
           let one : w.setting ≡ s = stands_one settings i w.setting s
           (subst (λ (n : ℕ). Stands settings n w.setting) m w.stands) there in
@@ -105,7 +105,7 @@ module _ (settings : List Setting) (i : ℕ) (s : Setting) (there : Stands setti
       is_met true f g = refl
       is_met false f g = let k : false ≡ true = sym f ∙ g in absurd cc
 
-      before_of : IsMet settings i key.items → IsSetBefore settings i
+      before_of : IsTargetMet settings i key.items → IsSetBefore settings i
       before_of w = record {
         j = w.j;
         before = w.before;
@@ -116,7 +116,7 @@ module _ (settings : List Setting) (i : ℕ) (s : Setting) (there : Stands setti
         same = codes_same (target_of w.setting) (target_of s) (w.same ∙ codes);
       }
 
-      of_before : IsSetBefore settings i → IsMet settings i key.items
+      of_before : IsSetBefore settings i → IsTargetMet settings i key.items
       of_before w =
           let one : w.later ≡ s = stands_one settings i w.later s w.has_later there in
           record {

@@ -28,7 +28,7 @@ use Rattle.hierarchy.proofs.Apart.{members_apart, named_here, named_back}
 use Rattle.hierarchy.proofs.Things.{flat_origin, flat_one}
 use Rattle.hierarchy.proofs.Looking.{leads_kind}
 use Rattle.hierarchy.proofs.Finding.{same_or_not}
-use Rattle.unit_rules.specs.Naming.{Entry, AddsNames, instance_names, inner_form, inner_names, alias_form, alias_names, names_if, names_at_sites}
+use Rattle.unit_rules.specs.Naming.{NameEntry, AddsNames, instance_names, inner_form, inner_names, alias_form, alias_names, names_if, names_at_sites}
 use Rattle.ar_syntax.specs.declared.paths.Path.{Path}
 use Rattle.unit_rules.specs.Statements.{HasPath}
 use Rattle.unit_rules.proofs.Adding.{adds_right, adds_all}
@@ -219,8 +219,8 @@ alias_takes m s (Some (Nested y at b)) g o h = let e = only_item _ _ o in absurd
 
 -- Units
 
-entry_back : (entries : List Entry) (x n : ℕ) → entry_in entries x ≡ Some n
-    → (e : Entry) × IsOneOf entries e × (e.0.n ≡ x) × (e.1.n ≡ n)
+entry_back : (entries : List NameEntry) (x n : ℕ) → entry_in entries x ≡ Some n
+    → (e : NameEntry) × IsOneOf entries e × (e.0.n ≡ x) × (e.1.n ≡ n)
 entry_back [] x n h = cc
 entry_back (e ∷ es) x n h = elim (same_or_not e.0.n x) [
   | inl q ↦ (let w : (e.0.n == x) ≡ true = q.0 in let r = rw w at h in (e, one_first e es, q.1, some_same r))
@@ -230,12 +230,12 @@ entry_back (e ∷ es) x n h = elim (same_or_not e.0.n x) [
     some_same : {A : Type 0} {a b : A} → Some a ≡ Some b → a ≡ b
     some_same e = cc
 
-entry_lost : (entries : List Entry) (e : Entry) (x : ℕ) → IsOneOf entries e → e.0.n ≡ x → entry_in entries x ≡ None → ⊥
+entry_lost : (entries : List NameEntry) (e : NameEntry) (x : ℕ) → IsOneOf entries e → e.0.n ≡ x → entry_in entries x ≡ None → ⊥
 entry_lost [] e x o q h = one_none e o
 entry_lost (f ∷ fs) e x o q h = elim (same_or_not f.0.n x) [
   | inl r ↦ (let w : (f.0.n == x) ≡ true = r.0 in let s = rw w at h in no s)
   | inr r ↦ (let w : (f.0.n == x) ≡ false = r.0 in let s = rw w at h in elim (one_cases f fs e o) [
-    | inl t ↦ r.1 (ap (λ (z : Entry). z.0.n) t ∙ q)
+    | inl t ↦ r.1 (ap (λ (z : NameEntry). z.0.n) t ∙ q)
     | inr t ↦ entry_lost fs e x t q s
   ])
 ]
@@ -268,9 +268,9 @@ module _ {m : RootedModel} (k : KeepsTextRules m) (test other : MemberKind → B
       flat_one (λ s. names_if names (owned_at m.declared s)) (members_at m u) c.item g.name
       (record { place = c.from; stands = c.stands }) (takes c.item (owned_at m.declared c.item) g c.is_one h)
 
-  pub are_names : {units : List UnitPath} {u : UnitPath} {list sorted : List Entry}
+  pub are_names : {units : List UnitPath} {u : UnitPath} {list sorted : List NameEntry}
       → AddsNames m units u [] (names_at_sites names m.declared (members_at m u)) list → IsPermutation list sorted
-      → IsNonDecreasingBy (λ (e : Entry). e.0.n) sorted → AreNames m units test u sorted
+      → IsNonDecreasingBy (λ (e : NameEntry). e.0.n) sorted → AreNames m units test u sorted
   are_names {units = units} {u = u} {list = list} {sorted = sorted} adds perm order =
       record { found = found; absent = absent; ordered = order }
     where
@@ -319,16 +319,16 @@ alias_either w (inl h) n = absurd (not_both _ n h)
 alias_either w (inr h) n = h
 
 -- the inner units of a unit, and its aliases, from what was added and put in order
-pub inner_listed : {m : RootedModel} {units : List UnitPath} {u : UnitPath} {list sorted : List Entry} → KeepsTextRules
+pub inner_listed : {m : RootedModel} {units : List UnitPath} {u : UnitPath} {list sorted : List NameEntry} → KeepsTextRules
     m → AddsNames m units u [] (names_at_sites inner_names m.declared (members_at m u)) list → IsPermutation list sorted
-    → IsNonDecreasingBy (λ (e : Entry). e.0.n) sorted → AreNames m units is_inner u sorted
+    → IsNonDecreasingBy (λ (e : NameEntry). e.0.n) sorted → AreNames m units is_inner u sorted
 inner_listed {m = m} k adds perm order =
     are_names k is_inner is_alias inner_names inner_either (inner_gives k) (inner_takes m) adds perm order
 
-pub aliases_listed : {m : RootedModel} {units : List UnitPath} {u : UnitPath} {list sorted : List Entry}
+pub aliases_listed : {m : RootedModel} {units : List UnitPath} {u : UnitPath} {list sorted : List NameEntry}
     → KeepsTextRules m
     → AddsNames m units u [] (names_at_sites alias_names m.declared (members_at m u)) list → IsPermutation list sorted
-    → IsNonDecreasingBy (λ (e : Entry). e.0.n) sorted → AreNames m units is_alias u sorted
+    → IsNonDecreasingBy (λ (e : NameEntry). e.0.n) sorted → AreNames m units is_alias u sorted
 aliases_listed {m = m} k adds perm order =
     are_names k is_alias is_inner alias_names alias_either (alias_gives k) (alias_takes m) adds perm order
 

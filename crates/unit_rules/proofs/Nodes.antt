@@ -13,7 +13,7 @@ use Rattle.class_table.specs.Members.{Site}
 use Rattle.class_table.specs.TablesInside.{site_of}
 use Rattle.ar_base.specs.Numbers.{BodyId}
 use Rattle.class_table.specs.declared.tables.Owned.{Owned}
-use Rattle.unit_rules.specs.Naming.{Entry, AddsNames, names_at_sites}
+use Rattle.unit_rules.specs.Naming.{NameEntry, AddsNames, names_at_sites}
 use Rattle.class_table.specs.declared.tables.Body.{Body}
 use Rattle.class_table.specs.declared.tables.Classes.{Classes}
 use Rattle.hierarchy.specs.Models.{RootedModel}
@@ -43,7 +43,7 @@ members_past {m = m} {c = c} u {b = b} t e l =
     ap (λ o. unwrap_or o []) (slice_get_past m.members (body_of m u) (omega arith))
 
 -- what was added for the members of a body was added for those of the unit
-pub at_members : {m : RootedModel} {units : List UnitPath} {u : UnitPath} {list : List Entry}
+pub at_members : {m : RootedModel} {units : List UnitPath} {u : UnitPath} {list : List NameEntry}
     {all read : List (BodyId × ℕ)} (names : Owned → List ℕ) → members_at m u ≡ map site_of all → read ≡ all
     → AddsNames m units u [] (names_at_sites names m.declared (map site_of read)) list
     → AddsNames m units u [] (names_at_sites names m.declared (members_at m u)) list

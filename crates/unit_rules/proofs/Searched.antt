@@ -17,7 +17,7 @@ use Rattle.hierarchy.specs.Settings.{target_of, settings_at, settings_of}
 use Rattle.hierarchy.specs.Tie.{IsOutline, IsSetAt, none, some}
 use Rattle.hierarchy.specs.declared.outline.Outline.{Outline}
 use Rattle.unit_rules.specs.Rules.{IsSettingTarget, HasSetting, BreaksSetting, no_target, twice}
-use Rattle.unit_rules.specs.Wrong.{IsSetBefore, BreaksAt, BreaksIn, BreaksUnit}
+use Rattle.unit_rules.specs.Wrong.{IsSetBefore, BreaksAt, BreaksIn, BreaksSettings}
 
 -- One setting
 
@@ -42,11 +42,11 @@ module _ (m : RootedModel) (u : UnitPath) (settings : List Setting) where
 
 module _ (m : RootedModel) (u : UnitPath) where
   -- a unit without settings
-  pub no_declaration : set_at_of u ≡ None → IsEarliest (BreaksUnit m u) None
+  pub no_declaration : set_at_of u ≡ None → IsEarliest (BreaksSettings m u) None
   no_declaration e = nowhere (λ p b. (let f : None ≡ Some b.site = sym e ∙ b.set_at in absurd cc))
 
   pub no_settings : (site : Site) → set_at_of u ≡ Some site → owned_at m.declared site ≡ None
-      → IsEarliest (BreaksUnit m u) None
+      → IsEarliest (BreaksSettings m u) None
   no_settings site e n = nowhere (λ p b. (
       let f : Some site ≡ Some b.site = sym e ∙ b.set_at in
       let g : site ≡ b.site = cc in
@@ -55,7 +55,7 @@ module _ (m : RootedModel) (u : UnitPath) where
       (subst (λ (xs : List Setting). Stands xs b.breaks.k b.breaks.setting) h b.breaks.stands))))
 
   pub of_settings : (site : Site) (settings : List Setting) (r : Option Place) → set_at_of u ≡ Some site
-      → settings ≡ settings_at m site → IsEarliest (BreaksIn m u settings) r → IsEarliest (BreaksUnit m u) r
+      → settings ≡ settings_at m site → IsEarliest (BreaksIn m u settings) r → IsEarliest (BreaksSettings m u) r
   of_settings site settings r e q h = earliest_same r
       (λ p b. record { site = site; set_at = e; breaks = subst (λ (xs : List Setting). BreaksIn m u xs p) q b })
       (λ p b. (
@@ -90,7 +90,7 @@ set_there u at site s e = go (set_at_of u) at s e
 pub record BreaksNumber (m : RootedModel) (units : List UnitPath) (k : ℕ) (o : Outline) (p : Place) : Type 0 where
   pub unit : UnitPath
   pub stands : Stands units k unit
-  pub breaks : BreaksUnit m unit p
+  pub breaks : BreaksSettings m unit p
 
 module _ (m : RootedModel) (units : List UnitPath) (outlines : List Outline)
     (along : Along (IsOutline m units) units outlines) where
@@ -125,7 +125,7 @@ module _ (m : RootedModel) (units : List UnitPath) (outlines : List Outline)
   has_site : {u : UnitPath} {k : ℕ} {s : Setting} → (h : HasSetting m units u k s) → set_at_of u ≡ Some h.site
   has_site h = ap set_at_of h.split ∙ h.set_at
 
-  at_number : (u : UnitPath) (p : Place) → IsOneOf units u → BreaksUnit m u p
+  at_number : (u : UnitPath) (p : Place) → IsOneOf units u → BreaksSettings m u p
       → (k : ℕ) × AtItem outlines (BreaksNumber m units) k p
   at_number u p o b =
       let w = along_on units outlines along o.place u o.stands in
@@ -166,6 +166,6 @@ module _ (m : RootedModel) (units : List UnitPath) (outlines : List Outline)
 
   -- the earliest place of the settings of a unit is that of its number
   pub at_unit : (k : ℕ) (o : Outline) (u : UnitPath) (r : Option Place) → Stands units k u
-      → IsEarliest (BreaksUnit m u) r → IsEarliest (BreaksNumber m units k o) r
+      → IsEarliest (BreaksSettings m u) r → IsEarliest (BreaksNumber m units k o) r
   at_unit k o u r s h = earliest_same r (λ p b. record { unit = u; stands = s; breaks = b })
-      (λ p b. subst (λ (v : UnitPath). BreaksUnit m v p) (stands_one units k b.unit u b.stands s) b.breaks) h
+      (λ p b. subst (λ (v : UnitPath). BreaksSettings m v p) (stands_one units k b.unit u b.stands s) b.breaks) h

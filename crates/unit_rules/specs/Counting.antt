@@ -20,18 +20,18 @@ abbrev pub named_so : (MemberKind → Bool) → List NamedMember → ℕ
 named_so test gs = length (filter (λ (g : NamedMember). test g.kind) gs)
 
 -- the counts are those of the variables and events among these names, and of so many nodes
-pub record AreCounts (gs : List NamedMember) (nodes : ℕ) (c : Counts) : Type 0 where
+pub record AreMemberCounts (gs : List NamedMember) (nodes : ℕ) (c : Counts) : Type 0 where
   pub variables : c.variables ≡ capped (named_so is_variable gs)
   pub events : c.events ≡ capped (named_so is_event gs)
   pub nodes_are : c.nodes ≡ capped nodes
 
 -- the counts are those of the member, wherever it stands
-pub record AreOf (d : Declared) (o : Owned) (c : Counts) : Type 0 where
-  pub at : (s : Site) → AreCounts (names_of d s (Some o)) (owned_size (Some o)) c
+pub record CountsMember (d : Declared) (o : Owned) (c : Counts) : Type 0 where
+  pub at : (s : Site) → AreMemberCounts (names_of d s (Some o)) (owned_size (Some o)) c
 
 -- the counts are those of the members that stand in the body
 abbrev pub AreOwn : Declared → Body → Vec Counts Global → Type 0
-AreOwn d b counts = Along (AreOf d) b.own.items counts.items
+AreOwn d b counts = Along (CountsMember d) b.own.items counts.items
 
 -- the nodes of the members at these sites
 abbrev pub nodes_at : Declared → List Site → ℕ
@@ -39,7 +39,7 @@ nodes_at d sites = sum (map (λ s. owned_size (owned_at d s)) sites)
 
 -- the counts are those of the members at these sites
 abbrev pub AreAt : Declared → List Site → Counts → Type 0
-AreAt d sites c = AreCounts (named_at d sites) (nodes_at d sites) c
+AreAt d sites c = AreMemberCounts (named_at d sites) (nodes_at d sites) c
 
 -- the counts are those of all members of the body
 abbrev pub AreOfBody : Declared → Body → Counts → Type 0

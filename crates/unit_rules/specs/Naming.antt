@@ -21,21 +21,21 @@ use Rattle.hierarchy.specs.Walks.{WalkOutcome, Reaches, Nothing, Loops}
 use Rattle.hierarchy.specs.WalksInside.{LeadsFrom}
 
 -- an entry of a unit's names
-abbrev pub Entry : Type 0
-Entry = NameId × UnitId
+abbrev pub NameEntry : Type 0
+NameEntry = NameId × UnitId
 
 -- the name was looked up: the entry that it leads to was added, or it leads to no unit and nothing was
-pub data AddsName (m : RootedModel) (units : List UnitPath) (u : UnitPath) (x : ℕ) (old : List Entry) : List Entry
+pub data AddsName (m : RootedModel) (units : List UnitPath) (u : UnitPath) (x : ℕ) (old : List NameEntry) : List NameEntry
     → Type 0 where
-  added : (e : Entry) (v : UnitPath) → e.0.n ≡ x → Stands units e.1.n v → LeadsFrom m u x (Reaches v)
+  added : (e : NameEntry) (v : UnitPath) → e.0.n ≡ x → Stands units e.1.n v → LeadsFrom m u x (Reaches v)
       → AddsName m units u x old (old ++ e ∷ [])
   nothing : ((v : UnitPath) → LeadsFrom m u x (Reaches v) → ⊥) → AddsName m units u x old old
 
 -- the same of several names, one after the other
-pub data AddsNames (m : RootedModel) (units : List UnitPath) (u : UnitPath) (old : List Entry) : List ℕ → List Entry
+pub data AddsNames (m : RootedModel) (units : List UnitPath) (u : UnitPath) (old : List NameEntry) : List ℕ → List NameEntry
     → Type 0 where
   none : AddsNames m units u old [] old
-  one_more : {xs : List ℕ} {x : ℕ} {between new : List Entry} → AddsNames m units u old xs between
+  one_more : {xs : List ℕ} {x : ℕ} {between new : List NameEntry} → AddsNames m units u old xs between
       → AddsName m units u x between new
       → AddsNames m units u old (xs ++ x ∷ []) new
 
@@ -84,12 +84,12 @@ statement_of (Plain m) = statement_form (out-Member m)
 statement_of (Nested x at b) = None
 
 -- the member is a clone or an alias whose walk comes to this, and whose path stands here
-pub data EndsSo (m : RootedModel) (u : UnitPath) (o : WalkOutcome) : Option (Path × ℕ) → Place → Type 0 where
-  ends : {p : Path} {x : ℕ} → LeadsFrom m u x o → EndsSo m u o (Some (p, x)) p.at
+pub data EndsWalk (m : RootedModel) (u : UnitPath) (o : WalkOutcome) : Option (Path × ℕ) → Place → Type 0 where
+  ends : {p : Path} {x : ℕ} → LeadsFrom m u x o → EndsWalk m u o (Some (p, x)) p.at
 
 -- the same of a member that was looked up
 pub data SiteEndsSo (m : RootedModel) (u : UnitPath) (o : WalkOutcome) : Option Owned → Place → Type 0 where
-  owned : {w : Owned} {p : Place} → EndsSo m u o (statement_of w) p → SiteEndsSo m u o (Some w) p
+  owned : {w : Owned} {p : Place} → EndsWalk m u o (statement_of w) p → SiteEndsSo m u o (Some w) p
 
 -- the same of one of the members at these sites
 pub record SitesEndSo (m : RootedModel) (u : UnitPath) (o : WalkOutcome) (sites : List Site) (p : Place) : Type 0 where

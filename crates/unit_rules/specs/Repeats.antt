@@ -20,7 +20,7 @@ abbrev pub was_met : Targets → Vec ℕ Global → Bool
 was_met t key = bag.contains (λ (x y : Vec ℕ Global). pointwise nat_eq x.items y.items) t.met key
 
 -- one of the first i settings has a target of these numbers
-pub record IsMet (settings : List Setting) (i : ℕ) (codes : List ℕ) : Type 0 where
+pub record IsTargetMet (settings : List Setting) (i : ℕ) (codes : List ℕ) : Type 0 where
   pub j : ℕ
   pub before : j < i
   pub setting : Setting
@@ -29,7 +29,7 @@ pub record IsMet (settings : List Setting) (i : ℕ) (codes : List ℕ) : Type 0
 
 -- the targets of the first i settings were met
 pub record HaveMet (settings : List Setting) (i : ℕ) (t : Targets) : Type 0 where
-  pub met : (key : Vec ℕ Global) → (was_met t key ≡ true) ↔ IsMet settings i key.items
+  pub met : (key : Vec ℕ Global) → (was_met t key ≡ true) ↔ IsTargetMet settings i key.items
 
 -- the target of setting i was met too, and it was told whether it is new
 pub record MeetsOne (settings : List Setting) (i : ℕ) (is_new : Bool) (t : Targets) : Type 0 where

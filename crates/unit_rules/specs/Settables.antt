@@ -21,15 +21,15 @@ state_or_flow false true = Some settable.Flow
 state_or_flow false false = None
 
 -- what a variable with these settings is
-abbrev pub variable_of : List Setting → Option Settable
-variable_of settings = state_or_flow (is_state settings) (is_flow settings)
+abbrev pub variable_set : List Setting → Option Settable
+variable_set settings = state_or_flow (is_state settings) (is_flow settings)
 
 -- what may be set by a name that is this, or gone into; an alias is not gone into
 abbrev pub settable_of : MemberKind → Option Settable
 settable_of (Inner b from) = Some settable.Inner
 settable_of (Clone p) = Some settable.Inner
 settable_of (Alias p) = None
-settable_of (Variable d settings) = variable_of settings
+settable_of (Variable d settings) = variable_set settings
 settable_of (Parameter t e) = Some settable.Parameter
 settable_of Kept = Some settable.Parameter
 settable_of Event = None
@@ -41,15 +41,15 @@ one_entry x None = []
 one_entry x (Some s) = (x, s) ∷ []
 
 -- the entries of these names
-abbrev pub entries_of : List NamedMember → List (ℕ × Settable)
-entries_of gs = flat_map (λ (g : NamedMember). one_entry g.name (settable_of g.kind)) gs
+abbrev pub settable_entries : List NamedMember → List (ℕ × Settable)
+settable_entries gs = flat_map (λ (g : NamedMember). one_entry g.name (settable_of g.kind)) gs
 
 -- what is kept for the name x of a body
 abbrev pub kept_at : Settables → ℕ → ℕ → Option Settable
 kept_at t b x = get same_pair t.kept (b, x)
 
 -- entries of a body were added: what is kept was kept before or is one of them, and for each of them something is kept
-pub record Adds (b : ℕ) (entries : List (ℕ × Settable)) (old new : Settables) : Type 0 where
+pub record AddsSettables (b : ℕ) (entries : List (ℕ × Settable)) (old new : Settables) : Type 0 where
   pub found : (c x : ℕ) (s : Settable) → kept_at new c x ≡ Some s
       → (kept_at old c x ≡ Some s) ⊎ ((c ≡ b) × IsOneOf entries (x, s))
   pub kept : (c x : ℕ) (s : Settable) → kept_at old c x ≡ Some s → (t : Settable) × (kept_at new c x ≡ Some t)
@@ -57,9 +57,9 @@ pub record Adds (b : ℕ) (entries : List (ℕ × Settable)) (old new : Settable
 
 -- what is kept is right, and something is kept for each name of the first i of these units that may be set
 pub record AreSettablesTo (m : RootedModel) (units : List UnitPath) (i : ℕ) (t : Settables) : Type 0 where
-  pub right : (c x : ℕ) (s : Settable) → kept_at t c x ≡ Some s → IsOneOf (entries_of (names_in m c)) (x, s)
+  pub right : (c x : ℕ) (s : Settable) → kept_at t c x ≡ Some s → IsOneOf (settable_entries (names_in m c)) (x, s)
   pub all : (k : ℕ) (u : UnitPath) (x : ℕ) (s : Settable) → k < i → Stands units k u
-      → IsOneOf (entries_of (names_at m u)) (x, s)
+      → IsOneOf (settable_entries (names_at m u)) (x, s)
       → (r : Settable) × (kept_at t (body_of m u) x ≡ Some r)
 
 -- in each unit each name is found as what may be set by it, or gone into

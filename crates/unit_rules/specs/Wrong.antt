@@ -33,7 +33,7 @@ pub record BreaksIn (m : RootedModel) (u : UnitPath) (settings : List Setting) (
   pub breaks : BreaksAt m u settings k setting p
 
 -- one of the declaration whose settings hold in the unit is
-pub record BreaksUnit (m : RootedModel) (u : UnitPath) (p : Place) : Type 0 where
+pub record BreaksSettings (m : RootedModel) (u : UnitPath) (p : Place) : Type 0 where
   pub site : Site
   pub set_at : set_at_of u ≡ Some site
   pub breaks : BreaksIn m u (settings_at m site) p

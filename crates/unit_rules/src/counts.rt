@@ -2,7 +2,7 @@
 
 ghost use Rattle.std.specs.Prelude.{◌≡◌, ◌+◌, ◌++◌, [], List, ℕ};
 ghost use Rattle.class_table.specs.Members.{NamedMember};
-ghost use Rattle.unit_rules.specs.Counting.{capped, AreCounts};
+ghost use Rattle.unit_rules.specs.Counting.{capped, AreMemberCounts};
 
 /// How many variables, events and nodes there are, each no greater than the machine's greatest number.
 #[derive(Clone, Copy)]
@@ -22,7 +22,7 @@ pub(crate) fn both(first: u64, second: u64) -> u64
 impl Counts {
     /// Nothing.
     pub(crate) fn none() -> Counts
-        ensures { AreCounts [] 0 result }
+        ensures { AreMemberCounts [] 0 result }
     {
         Counts {
             variables: 0,
@@ -33,8 +33,8 @@ impl Counts {
 
     /// The counts of both.
     pub(crate) fn with(self, other: Counts) -> Counts
-        ensures { (gs hs : List NamedMember) (n k : ℕ) → AreCounts gs n self → AreCounts hs k other
-            → AreCounts (gs ++ hs) (n + k) result }
+        ensures { (gs hs : List NamedMember) (n k : ℕ) → AreMemberCounts gs n self → AreMemberCounts hs k other
+            → AreMemberCounts (gs ++ hs) (n + k) result }
     {
         Counts {
             variables: both(self.variables, other.variables),

@@ -15,18 +15,6 @@ use class_table::Classes;
 use hierarchy::Outline;
 use std::alloc::Global;
 
-// Refuses the number where it passes the limit of the count.
-fn within(count: Count, number: u64) -> Result<(), RuleFault>
-    ensures { (n : ℕ) → number ≡ capped n
-        → MatchResult result (λ _. n ≤ limit_of count)
-        (λ e. (limit_of count < n) × (e ≡ Limit count)) }
-{
-    if number > u64::from(count.limit()) {
-        return Err(RuleFault::Limit(count));
-    }
-    Ok(())
-}
-
 /// Tests the limits of the tree of these units: first how many variables it has, then how many events, then how many
 /// nodes. The names of a declaration of variables count whatever its settings are.
 ///
@@ -40,4 +28,16 @@ pub fn fit(alloc: Global, classes: &Classes, outlines: &[Outline]) -> Result<(),
     within(Count::Variables, counts.variables)?;
     within(Count::Events, counts.events)?;
     within(Count::TreeNodes, counts.nodes)
+}
+
+// Refuses the number where it passes the limit of the count.
+fn within(count: Count, number: u64) -> Result<(), RuleFault>
+    ensures { (n : ℕ) → number ≡ capped n
+        → MatchResult result (λ _. n ≤ limit_of count)
+        (λ e. (limit_of count < n) × (e ≡ Limit count)) }
+{
+    if number > u64::from(count.limit()) {
+        return Err(RuleFault::Limit(count));
+    }
+    Ok(())
 }

@@ -8,7 +8,7 @@ ghost use Rattle.class_table.specs.Members.{Site, names_of_form};
 ghost use Rattle.class_table.specs.TablesInside.{IsNamedType};
 ghost use Rattle.hierarchy.specs.Walks.{is_variable, is_event};
 ghost use Rattle.unit_rules.specs.Sizes.{member_size as size_of, setting_size};
-ghost use Rattle.unit_rules.specs.Counting.{capped, named_so, AreOf};
+ghost use Rattle.unit_rules.specs.Counting.{capped, named_so, CountsMember};
 ghost use Rattle.unit_rules.specs.TypingInside.{KnowsPlaces};
 
 use crate::counts::{Counts, both};
@@ -22,7 +22,7 @@ use class_table::{Owned, TypeBody};
 pub(crate) fn counts_of(owned: &Owned, types: &[(NameId, TypeBody)], places: &TypePlaces) -> Counts
     ensures { (d : Declared) → Along (IsNamedType d.symbols) types.now d.types
         → KnowsPlaces types.now places.now
-        → AreOf d owned.now result }
+        → CountsMember d owned.now result }
 {
     match owned {
         Owned::Nested(_, _, _) => Counts {

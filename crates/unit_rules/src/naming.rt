@@ -12,7 +12,7 @@ ghost use Rattle.hierarchy.specs.ModelsInside.{IsKeptTable};
 ghost use Rattle.hierarchy.specs.Units.{UnitPath, body_of, members_at};
 ghost use Rattle.hierarchy.specs.Tie.{AreOutlines, IsOutline, IsUnitNode};
 ghost use Rattle.unit_walks.specs.Settling.{AreOutcomes};
-ghost use Rattle.unit_rules.specs.Naming.{Entry, AddsNames, instance_names, inner_names, alias_names, names_at_sites};
+ghost use Rattle.unit_rules.specs.Naming.{NameEntry, AddsNames, instance_names, inner_names, alias_names, names_at_sites};
 
 use ar_base::{BodyId, Memory, NameId, Place, UnitId};
 use ar_syntax::{Member, TypeForm};
@@ -22,6 +22,28 @@ use std::alloc::Global;
 use unit_walks::{Led, Walks};
 
 type Entries = Vec<(NameId, UnitId)>;
+
+/// The units with the names that lead to units in each of them, from their outlines and from what the walks of names
+/// lead to. The only error is want of memory.
+pub fn name_units(
+    alloc: Global,
+    classes: &Classes,
+    outlines: &[Outline],
+    walks: &Walks,
+) -> Result<Vec<UnitNode>, Memory>
+    requires { length outlines.now < 2 ^ 32 }
+    ensures { (m : RootedModel) (units : List UnitPath)
+        → AreOutlines m units classes.now outlines.now
+        → AreOutcomes m units walks.now → IfOk result
+        (λ nodes. Along (IsUnitNode m units) units nodes.items) }
+{
+    let mut nodes = Vec::new(alloc);
+    for (place, outline) in outlines.iter().enumerate() {
+        let node = node_of(alloc, classes, walks, UnitId::new(place as u32), outline)?;
+        nodes.push(node)?;
+    }
+    Ok(nodes)
+}
 
 // Adds the unit that a name leads to, if it leads to one.
 fn add(entries: &mut Entries, walks: &Walks, unit: UnitId, name: NameId) -> Result<(), Memory>
@@ -196,7 +218,7 @@ fn aliases_of(
 // The entries in the order of their names.
 fn in_order(mut entries: Entries) -> Result<Entries, Memory>
     ensures same { IfOk result (λ r. IsPermutation entries.items r.items) }
-    ensures ordered { IfOk result (λ r. IsNonDecreasingBy (λ (e : Entry). e.0.n) r.items) }
+    ensures ordered { IfOk result (λ r. IsNonDecreasingBy (λ (e : NameEntry). e.0.n) r.items) }
 {
     entries.sort_by_key(|entry| entry.0.n)?;
     Ok(entries)
@@ -235,26 +257,4 @@ fn node_of(
         inner: in_order(inner)?,
         aliases: in_order(aliases)?,
     })
-}
-
-/// The units with the names that lead to units in each of them, from their outlines and from what the walks of names
-/// lead to. The only error is want of memory.
-pub fn name_units(
-    alloc: Global,
-    classes: &Classes,
-    outlines: &[Outline],
-    walks: &Walks,
-) -> Result<Vec<UnitNode>, Memory>
-    requires { length outlines.now < 2 ^ 32 }
-    ensures { (m : RootedModel) (units : List UnitPath)
-        → AreOutlines m units classes.now outlines.now
-        → AreOutcomes m units walks.now → IfOk result
-        (λ nodes. Along (IsUnitNode m units) units nodes.items) }
-{
-    let mut nodes = Vec::new(alloc);
-    for (place, outline) in outlines.iter().enumerate() {
-        let node = node_of(alloc, classes, walks, UnitId::new(place as u32), outline)?;
-        nodes.push(node)?;
-    }
-    Ok(nodes)
 }

@@ -11,7 +11,7 @@ ghost use Rattle.hierarchy.specs.Models.{RootedModel};
 ghost use Rattle.hierarchy.specs.Units.{UnitPath};
 ghost use Rattle.hierarchy.specs.Tie.{AreOutlines};
 ghost use Rattle.unit_rules.specs.TypingInside.{KnowsPlaces};
-ghost use Rattle.unit_rules.specs.Settables.{settable_of, variable_of, one_entry, entries_of, kept_at, Adds, AreSettables};
+ghost use Rattle.unit_rules.specs.Settables.{settable_of, variable_set, one_entry, settable_entries, kept_at, AddsSettables, AreSettables};
 
 use crate::{TypePlaces, is_flow, is_state};
 use ar_base::{BodyId, Memory, NameId, Place};
@@ -43,7 +43,7 @@ pub(crate) struct Settables {
 
 // What a variable with these settings is.
 fn variable(settings: &[Setting]) -> Option<Settable>
-    ensures { result ≡ variable_of settings.now }
+    ensures { result ≡ variable_set settings.now }
 {
     if is_state(settings) {
         Some(Settable::State)
@@ -86,7 +86,7 @@ impl Settables {
 
     // Keeps what a name of a body is.
     fn keep(&mut self, body: BodyId, name: NameId, settable: Settable) -> Result<(), Memory>
-        ensures { OnOk result (Adds body.n ((name.n, settable) ∷ []) self.old self.new) }
+        ensures { OnOk result (AddsSettables body.n ((name.n, settable) ∷ []) self.old self.new) }
     {
         self.kept.insert((body.n, name.n), settable)?;
         Ok(())
@@ -99,7 +99,7 @@ impl Settables {
         names: &[(NameId, Place)],
         kind: Option<Settable>,
     ) -> Result<(), Memory>
-        ensures { OnOk result (Adds body.n
+        ensures { OnOk result (AddsSettables body.n
             (flat_map (λ (n : Name × PlaceOf). one_entry n.0.n kind) names.now) self.old self.new) }
     {
         let Some(settable) = kind else {
@@ -121,7 +121,7 @@ impl Settables {
     ) -> Result<(), Memory>
         ensures { (d : Declared) (s : Site)
             → HoldsDeclared d classes.now → KnowsPlaces classes.now.types.items places.now
-            → OnOk result (Adds body.n (entries_of (names_of d s (Some owned.now)))
+            → OnOk result (AddsSettables body.n (settable_entries (names_of d s (Some owned.now)))
             self.old self.new) }
     {
         let member = match owned {
@@ -158,7 +158,7 @@ impl Settables {
     ) -> Result<(), Memory>
         ensures { (d : Declared)
             → HoldsDeclared d classes.now → KnowsPlaces classes.now.types.items places.now
-            → OnOk result (Adds body.n (entries_of (named_at d (map site_of sites.now)))
+            → OnOk result (AddsSettables body.n (settable_entries (named_at d (map site_of sites.now)))
             self.old self.new) }
     {
         for site in sites {

@@ -11,7 +11,7 @@ ghost use Rattle.hierarchy.specs.Walks.{Nothing, Loops};
 ghost use Rattle.hierarchy.specs.Tie.{AreOutlines};
 ghost use Rattle.unit_walks.specs.Settling.{AreOutcomes};
 ghost use Rattle.unit_rules.specs.Statements.{WalkEnds, EndsIn};
-ghost use Rattle.unit_rules.specs.Naming.{statement_of, statement_found, EndsSo, SitesEndSo, broken_so};
+ghost use Rattle.unit_rules.specs.Naming.{statement_of, statement_found, EndsWalk, SitesEndSo, broken_so};
 
 use ar_base::{BodyId, NameId, Place, UnitId};
 use ar_syntax::{Member, Path};
@@ -19,6 +19,17 @@ use class_table::earliest::earliest;
 use class_table::{Body, Classes, Owned, owned_at};
 use hierarchy::Outline;
 use unit_walks::{Led, Walks};
+
+/// The earliest path of a clone or an alias of some unit whose walk names nothing, or None where there is none. Takes
+/// no memory.
+pub fn first_lost(classes: &Classes, outlines: &[Outline], walks: &Walks) -> Option<Place>
+    requires { length outlines.now < 2 ^ 32 }
+    ensures { (m : RootedModel) (units : List UnitPath)
+        → AreOutlines m units classes.now outlines.now
+        → AreOutcomes m units walks.now → IsEarliest (WalkEnds m units Nothing) result }
+{
+    first_broken(classes, outlines, walks, false)
+}
 
 // The path of a clone or an alias, and its name.
 fn statement(owned: &Owned) -> Option<(&Path, NameId)>
@@ -50,7 +61,7 @@ fn broken_at(owned: &Owned, walks: &Walks, unit: UnitId, looping: bool) -> Optio
     ensures { (m : RootedModel) (units : List UnitPath) (u : UnitPath)
         → AreOutcomes m units walks.now
         → Stands units unit.n u → IsEarliest
-        (EndsSo m u (broken_so looping) (statement_of owned.now)) result }
+        (EndsWalk m u (broken_so looping) (statement_of owned.now)) result }
 {
     let (path, name) = statement(owned)?;
     match walks.outcome(unit, name) {
@@ -104,17 +115,6 @@ fn first_broken(
         found = earliest(found, broken);
     }
     found
-}
-
-/// The earliest path of a clone or an alias of some unit whose walk names nothing, or None where there is none. Takes
-/// no memory.
-pub fn first_lost(classes: &Classes, outlines: &[Outline], walks: &Walks) -> Option<Place>
-    requires { length outlines.now < 2 ^ 32 }
-    ensures { (m : RootedModel) (units : List UnitPath)
-        → AreOutlines m units classes.now outlines.now
-        → AreOutcomes m units walks.now → IsEarliest (WalkEnds m units Nothing) result }
-{
-    first_broken(classes, outlines, walks, false)
 }
 
 /// The earliest path of a clone or an alias of some unit whose walk loops, or that is a clone of a unit with the body

@@ -17,20 +17,6 @@ use ar_syntax::Word;
 use hierarchy::Outline;
 use unit_walks::{Led, Walks};
 
-// Whether this is the one word `init`.
-fn is_init(words: &[Word]) -> bool
-    ensures { result ≡ is_one_init (map target_word_of words.now) }
-{
-    matches!(words, [Word::Init])
-}
-
-// Whether this is the one word `reset`.
-fn is_reset(words: &[Word]) -> bool
-    ensures { result ≡ is_one_reset (map target_word_of words.now) }
-{
-    matches!(words, [Word::Reset])
-}
-
 /// Whether the words lead from the unit through inner units to what they may set: a parameter,
 /// `init` of a state variable or `reset` of a flow. Takes no memory; the words go into no more units
 /// than stand in one another.
@@ -66,4 +52,18 @@ pub(crate) fn is_target(
             Led::Loops => false,
         },
     }
+}
+
+// Whether this is the one word `init`.
+fn is_init(words: &[Word]) -> bool
+    ensures { result ≡ is_one_init (map target_word_of words.now) }
+{
+    matches!(words, [Word::Init])
+}
+
+// Whether this is the one word `reset`.
+fn is_reset(words: &[Word]) -> bool
+    ensures { result ≡ is_one_reset (map target_word_of words.now) }
+{
+    matches!(words, [Word::Reset])
 }

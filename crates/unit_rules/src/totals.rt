@@ -11,7 +11,7 @@ ghost use Rattle.hierarchy.specs.Models.{RootedModel};
 ghost use Rattle.hierarchy.specs.Units.{UnitPath, names_at};
 ghost use Rattle.unit_rules.specs.Sizes.{tree_nodes};
 ghost use Rattle.hierarchy.specs.Tie.{AreOutlines};
-ghost use Rattle.unit_rules.specs.Counting.{AreCounts, AreOf, AreOwn, AreAt, AreOfBody};
+ghost use Rattle.unit_rules.specs.Counting.{AreMemberCounts, CountsMember, AreOwn, AreAt, AreOfBody};
 ghost use Rattle.unit_rules.specs.TypingInside.{KnowsPlaces};
 
 use crate::counts::Counts;
@@ -22,6 +22,22 @@ use class_table::{Body, Classes, Owned, TypeBody};
 use hierarchy::Outline;
 use std::alloc::Global;
 
+/// The counts of the tree of these units.
+pub(crate) fn totals(
+    alloc: Global,
+    classes: &Classes,
+    outlines: &[Outline],
+) -> Result<Counts, Memory>
+    ensures { (m : RootedModel) (units : List UnitPath)
+        → AreOutlines m units classes.now outlines.now
+        → IfOk result (AreMemberCounts (flat_map (names_at m) units) (tree_nodes m units)) }
+{
+    let places = TypePlaces::new(alloc, &classes.types)?;
+    let rows = all_own(alloc, &classes.bodies, &classes.types, &places)?;
+    let counts = of_bodies(alloc, &rows, &classes.bodies)?;
+    Ok(of_units(&counts, outlines))
+}
+
 // The counts of the members that stand in a body, one after the other.
 fn own_counts(
     alloc: Global,
@@ -31,7 +47,7 @@ fn own_counts(
 ) -> Result<Vec<Counts>, Memory>
     ensures { (d : Declared) → Along (IsNamedType d.symbols) types.now d.types
         → KnowsPlaces types.now places.now
-        → IfOk result (λ v. Along (AreOf d) own.now v.items) }
+        → IfOk result (λ v. Along (CountsMember d) own.now v.items) }
 {
     let mut counts = Vec::new(alloc);
     for owned in own {
@@ -104,7 +120,7 @@ fn of_units(counts: &[Counts], outlines: &[Outline]) -> Counts
     ensures { (m : RootedModel) (units : List UnitPath) (classes : Table)
         → AreOutlines m units classes outlines.now
         → Along (AreOfBody m.declared) classes.bodies.items counts.now
-        → AreCounts (flat_map (names_at m) units) (tree_nodes m units) result }
+        → AreMemberCounts (flat_map (names_at m) units) (tree_nodes m units) result }
 {
     let mut total = Counts::none();
     for outline in outlines {
@@ -115,20 +131,4 @@ fn of_units(counts: &[Counts], outlines: &[Outline]) -> Counts
         total = total.with(own);
     }
     total
-}
-
-/// The counts of the tree of these units.
-pub(crate) fn totals(
-    alloc: Global,
-    classes: &Classes,
-    outlines: &[Outline],
-) -> Result<Counts, Memory>
-    ensures { (m : RootedModel) (units : List UnitPath)
-        → AreOutlines m units classes.now outlines.now
-        → IfOk result (AreCounts (flat_map (names_at m) units) (tree_nodes m units)) }
-{
-    let places = TypePlaces::new(alloc, &classes.types)?;
-    let rows = all_own(alloc, &classes.bodies, &classes.types, &places)?;
-    let counts = of_bodies(alloc, &rows, &classes.bodies)?;
-    Ok(of_units(&counts, outlines))
 }

@@ -11,7 +11,7 @@ ghost use Rattle.hierarchy.specs.Tie.{AreOutlines, IsOutline};
 ghost use Rattle.unit_rules.specs.Rules.{BreaksSetting};
 ghost use Rattle.unit_walks.specs.Settling.{AreOutcomes};
 ghost use Rattle.unit_rules.specs.Settables.{AreSettables};
-ghost use Rattle.unit_rules.specs.Wrong.{IsSetBefore, BreaksAt, BreaksIn, BreaksUnit};
+ghost use Rattle.unit_rules.specs.Wrong.{IsSetBefore, BreaksAt, BreaksIn, BreaksSettings};
 
 use crate::repeats::Targets;
 use crate::settables::Settables;
@@ -24,6 +24,30 @@ use class_table::{Classes, owned_at};
 use hierarchy::Outline;
 use std::alloc::Global;
 use unit_walks::Walks;
+
+/// The earliest place where rule L9 is broken in these units: that of a setting whose words lead
+/// from its unit to nothing that they may set, or of one whose words an earlier setting of the same
+/// declaration has. None where there is no such setting. The only error is want of memory.
+pub fn first_wrong_setting(
+    alloc: Global,
+    classes: &Classes,
+    outlines: &[Outline],
+    walks: &Walks,
+) -> Result<Option<Place>, Memory>
+    requires { length outlines.now < 2 ^ 32 }
+    ensures { (m : RootedModel) (units : List UnitPath)
+        → AreOutlines m units classes.now outlines.now
+        → AreOutcomes m units walks.now → IfOk result (IsEarliest (BreaksSetting m units)) }
+{
+    let settables = Settables::new(alloc, classes, outlines)?;
+    let mut found = None;
+    for (place, outline) in outlines.iter().enumerate() {
+        let unit = UnitId::new(place as u32);
+        let wrong = wrong_in(alloc, &settables, classes, outlines, walks, unit, outline)?;
+        found = earliest(found, wrong);
+    }
+    Ok(found)
+}
 
 // The place of this setting, which holds in the unit, if it is wrong; it is new where no earlier
 // one has its target.
@@ -89,7 +113,7 @@ fn wrong_in(
         → AreOutlines m units classes.now outlines.now → AreOutcomes m units walks.now
         → AreSettables m units settables.now → Stands units unit.n u
         → IsOutline m units u outline.now
-        → IfOk result (IsEarliest (BreaksUnit m u)) }
+        → IfOk result (IsEarliest (BreaksSettings m u)) }
 {
     let Some(site) = outline.set_at else {
         return Ok(None);
@@ -98,28 +122,4 @@ fn wrong_in(
         None => Ok(None),
         Some(owned) => wrong_among(alloc, settables, outlines, walks, unit, settings_of(owned)),
     }
-}
-
-/// The earliest place where rule L9 is broken in these units: that of a setting whose words lead
-/// from its unit to nothing that they may set, or of one whose words an earlier setting of the same
-/// declaration has. None where there is no such setting. The only error is want of memory.
-pub fn first_wrong_setting(
-    alloc: Global,
-    classes: &Classes,
-    outlines: &[Outline],
-    walks: &Walks,
-) -> Result<Option<Place>, Memory>
-    requires { length outlines.now < 2 ^ 32 }
-    ensures { (m : RootedModel) (units : List UnitPath)
-        → AreOutlines m units classes.now outlines.now
-        → AreOutcomes m units walks.now → IfOk result (IsEarliest (BreaksSetting m units)) }
-{
-    let settables = Settables::new(alloc, classes, outlines)?;
-    let mut found = None;
-    for (place, outline) in outlines.iter().enumerate() {
-        let unit = UnitId::new(place as u32);
-        let wrong = wrong_in(alloc, &settables, classes, outlines, walks, unit, outline)?;
-        found = earliest(found, wrong);
-    }
-    Ok(found)
 }

@@ -6,7 +6,7 @@ use Rattle.ar_syntax.specs.declared.paths.PathStart.TheVariants.{Here, Owner, Ma
 use Rattle.class_table.specs.Members.{MemberKind}
 use Rattle.hierarchy.specs.Models.{RootedModel}
 use Rattle.hierarchy.specs.Units.{UnitPath, UnitLevel, same_unit, body_of, set_at_of, bodies_of, has_number, kind_at, start_of, numbers}
-use Rattle.unit_walks.specs.Forms.{kind_in}
+use Rattle.unit_walks.specs.Forms.{member_kind_in}
 use Rattle.unit_walks.specs.Ends.{NameEnds, NamesEnd, inner, clones, clones_none, embeds, no_unit, absent, nowhere, arrives, on, stops}
 
 -- the same names and bodies
@@ -50,7 +50,7 @@ bodies_alike s main = refl
 bodies_alike s (level p q a) = cons_same q (bodies_alike s a)
 
 pub kind_alike : (s : RootedModel) (x : ℕ) {u w : UnitPath} → Alike u w → kind_at s u x ≡ kind_at s w x
-kind_alike s x a = ap (λ b. kind_in s b x) (body_alike s a)
+kind_alike s x a = ap (λ b. member_kind_in s b x) (body_alike s a)
 
 start_alike : (start : PathStart) {u w : UnitPath} → Alike u w → AlikeIf (start_of start u) (start_of start w)
 start_alike Here a = some a

@@ -20,15 +20,15 @@ use Rattle.hierarchy.specs.Listing as h
 use Rattle.hierarchy.specs.Tie.{IsOwner, IsOutline, of_main, of_unit, IsNameOfUnit, IsSetAt}
 use Rattle.hierarchy.proofs.Outcomes.{unit_of_reaches}
 use Rattle.unit_walks.specs.Ends.{AreHigher, AreEndless}
-use Rattle.unit_walks.specs.Forms.{may_be_unit, only_units, IsUnitName, IsFormOf, IsFormsFor, list_at}
+use Rattle.unit_walks.specs.Forms.{may_be_unit, only_units, IsUnitName, IsKeptForm, IsFormsFor, list_at}
 use Rattle.unit_walks.specs.Forms as f
-use Rattle.unit_walks.specs.Tables.{paths_of, IsTable, Means, EndsAt, EndsNowhere}
-use Rattle.unit_walks.specs.Walking.{IsRun, IsKnown}
+use Rattle.unit_walks.specs.Tables.{table_paths, IsWalkTable, EntryMeans, EndsAt, EndsNowhere}
+use Rattle.unit_walks.specs.Walking.{IsRun, IsNameKnown}
 use Rattle.unit_walks.specs.Unfolding.{AreShallow, deep, many, depth}
 use Rattle.unit_walks.specs.UnfoldingInside.{RefusesUnits}
 use Rattle.unit_walks.specs.Unfolding as o
 use Rattle.unit_walks.specs.UnfoldingInside as refuses
-use Rattle.unit_walks.specs.Growing.{IsMade, IsMadeBy, IsNodeOf, Tied, AllShallow, Grows, Over, OnLimit, HasGrown, HasGrownInside, HasPassed, HasPassedInside, IsUnfolded}
+use Rattle.unit_walks.specs.Growing.{MakesInnerUnit, IsMadeBy, IsNodeOfUnit, Tied, AllShallow, GainsUnitNodes, Over, OnLimit, HasGrown, HasGrownInside, HasPassed, HasPassedInside, IsUnfolded}
 use Rattle.unit_walks.specs.declared.forms.Forms.{Forms}
 use Rattle.unit_walks.specs.declared.forms.UnitForm.TheVariants as form
 use Rattle.unit_walks.specs.declared.forms.UnitName.{UnitName}
@@ -60,13 +60,13 @@ none_endless s = record { endless = λ x k u o i d. cc }
 
 -- what gives a name makes, read off the table
 module _ (s : RootedModel) (old new : Table) (a x : ℕ) (r : Known) (u : UnitPath) (n : NamedMember)
-    (k : IsKnown s old new a x r) (p : Stands (paths_of old) a u) (named : n.name ≡ x)
+    (k : IsNameKnown s old new a x r) (p : Stands (table_paths old) a u) (named : n.name ≡ x)
     (kind : kind_at s u n.name ≡ Some n.kind) (own : is_inner n.kind ≡ true) where
   run : IsRun s old new
   run = record { table = k.table; extends = k.extends }
 
-  means : (q : Known) → r ≡ q → Means s (paths_of new) [] a u x q
-  means q e = subst (λ r. Means s (paths_of new) [] a u x r) e (k.known u (k.extends.units a u p))
+  means : (q : Known) → r ≡ q → EntryMeans s (table_paths new) [] a u x q
+  means q e = subst (λ r. EntryMeans s (table_paths new) [] a u x r) e (k.known u (k.extends.units a u p))
 
   here : (o : WalkOutcome) → NameLeads s [] u x (kind_at s u x) o → NameLeads s [] u n.name (Some n.kind) o
   here o d = subst (λ m. NameLeads s [] u n.name m o) kind
@@ -80,7 +80,7 @@ module _ (s : RootedModel) (old new : Table) (a x : ℕ) (r : Known) (u : UnitPa
           m.path,
           m.stands,
           record
-              { inner = own; leads = here (Reaches m.path) (leads_to s (paths_of new) u x j m) },
+              { inner = own; leads = here (Reaches m.path) (leads_to s (table_paths new) u x j m) },
         );
       }
 
@@ -93,33 +93,33 @@ module _ (s : RootedModel) (old new : Table) (a x : ℕ) (r : Known) (u : UnitPa
   pub made_following : r ≡ c.Following → {P : Type 0} → P
   made_following e = absurd (means c.Following e)
 
-pub alias_none : (s : RootedModel) (t : Table) (u : UnitPath) (n : UnitName) (g : NamedMember) {p : _} → IsTable s [] t
+pub alias_none : (s : RootedModel) (t : Table) (u : UnitPath) (n : UnitName) (g : NamedMember) {p : _} → IsWalkTable s [] t
     → IsUnitName n g → n.form ≡ form.Alias p → IsMadeBy s t t u g None
 alias_none s t u n g k i e = record {
   run = record { table = k; extends = extends_none t };
-  made = h.no_inner (not_inner (subst (λ f. IsFormOf f g.kind) e i.form));
+  made = h.no_inner (not_inner (subst (λ f. IsKeptForm f g.kind) e i.form));
 }
   where
-    not_inner : {kept : _} {m : MemberKind} → IsFormOf (form.Alias kept) m → is_inner m ≡ false
+    not_inner : {kept : _} {m : MemberKind} → IsKeptForm (form.Alias kept) m → is_inner m ≡ false
     not_inner (f.alias q) = refl
 
 pub inner_own : (n : UnitName) (g : NamedMember) {b : _} {at : _} → IsUnitName n g
     → n.form ≡ form.Inner b at → is_inner g.kind ≡ true
-inner_own n g i e = is_own (subst (λ f. IsFormOf f g.kind) e i.form)
+inner_own n g i e = is_own (subst (λ f. IsKeptForm f g.kind) e i.form)
   where
-    is_own : {b : _} {at : _} {m : MemberKind} → IsFormOf (form.Inner b at) m → is_inner m ≡ true
+    is_own : {b : _} {at : _} {m : MemberKind} → IsKeptForm (form.Inner b at) m → is_inner m ≡ true
     is_own (f.inner p q) = refl
 
 pub clone_own : (n : UnitName) (g : NamedMember) {p : _} → IsUnitName n g → n.form ≡ form.Clone p
     → is_inner g.kind ≡ true
-clone_own n g i e = is_own (subst (λ f. IsFormOf f g.kind) e i.form)
+clone_own n g i e = is_own (subst (λ f. IsKeptForm f g.kind) e i.form)
   where
-    is_own : {p : _} {m : MemberKind} → IsFormOf (form.Clone p) m → is_inner m ≡ true
+    is_own : {p : _} {m : MemberKind} → IsKeptForm (form.Clone p) m → is_inner m ≡ true
     is_own (f.clone q) = refl
 
 -- the clone of a path that leads to nothing makes no unit
 pub clone_lost : (s : RootedModel) (t : Table) (a : ℕ) (u : UnitPath) (n : UnitName) (g : NamedMember) {p : _}
-    → IsTable s [] t → Stands (paths_of t) a u → IsUnitName n g → kind_at s u g.name ≡ Some g.kind
+    → IsWalkTable s [] t → Stands (table_paths t) a u → IsUnitName n g → kind_at s u g.name ≡ Some g.kind
     → n.form ≡ form.Clone p → (kind_at s u g.name ≡ Some (Clone p.now) → EndsNowhere s u g.name)
     → IsMadeBy s t t u g None
 clone_lost s t a u n g {p} k stands i kind e lost =
@@ -127,14 +127,14 @@ clone_lost s t a u n g {p} k stands i kind e lost =
     (record {
       table = k;
       extends = extends_none t;
-      known = λ v q. subst (λ (z : UnitPath). EndsNowhere s z g.name) (stands_one (paths_of t) a u v stands q) nowhere;
+      known = λ v q. subst (λ (z : UnitPath). EndsNowhere s z g.name) (stands_one (table_paths t) a u v stands q) nowhere;
     }) stands refl kind (clone_own n g i e) refl
   where
-    path_of : {m : MemberKind} → IsFormOf (form.Clone p) m → m ≡ Clone p.now
+    path_of : {m : MemberKind} → IsKeptForm (form.Clone p) m → m ≡ Clone p.now
     path_of (f.clone q) = ap Clone (sym q)
 
     nowhere : EndsNowhere s u g.name
-    nowhere = lost (kind ∙ ap Some (path_of (subst (λ f. IsFormOf f g.kind) e i.form)))
+    nowhere = lost (kind ∙ ap Some (path_of (subst (λ f. IsKeptForm f g.kind) e i.form)))
 
 -- Nodes
 
@@ -144,8 +144,8 @@ owner_more all more [] (Some id) w = elim w [ ]
 owner_more all more (l ∷ u) None w = elim w [ ]
 owner_more all more (l ∷ u) (Some id) (of_unit p) = of_unit (stands_left all more id.n u p)
 
-node_more : (s : RootedModel) (all more paths : List UnitPath) (u : UnitPath) (d : Node) → IsNodeOf s all paths u d
-    → IsNodeOf s (all ++ more) paths u d
+node_more : (s : RootedModel) (all more paths : List UnitPath) (u : UnitPath) (d : Node) → IsNodeOfUnit s all paths u d
+    → IsNodeOfUnit s (all ++ more) paths u d
 node_more s all more paths u d i = record {
   outline = record {
     owner = owner_more all more u d.outline.owner i.outline.owner;
@@ -198,14 +198,14 @@ Front s u all rest us = (whole : Bool) (vs : List UnitPath) → Insides s whole 
     → Insides s whole u all (us ++ vs)
 
 front_none : (s : RootedModel) (before paths : List UnitPath) (u : UnitPath) (all : List NamedMember) (old : List Node)
-    → Grows s before paths (Front s u all all) old old
+    → GainsUnitNodes s before paths (Front s u all all) old old
 front_none s before paths u all old =
     record { units = []; are = λ w vs d. d; shallow = tt; nodes = []; grown = sym (append-nil old); tied = l.none }
 
 front_pass : {s : RootedModel} {before paths more : List UnitPath} {u : UnitPath} {all ms : List NamedMember}
     {m : NamedMember} {old new : List Node}
-    → IsWider paths more → MakesNone s u m → Grows s before paths (Front s u all (m ∷ ms)) old new
-    → Grows s before more (Front s u all ms) old new
+    → IsWider paths more → MakesNone s u m → GainsUnitNodes s before paths (Front s u all (m ∷ ms)) old new
+    → GainsUnitNodes s before more (Front s u all ms) old new
 front_pass {s = s} {before = before} w n g = record {
   units = g.units;
   are = λ w vs d. g.are w vs (passes n d);
@@ -217,8 +217,8 @@ front_pass {s = s} {before = before} w n g = record {
 
 front_makes : {s : RootedModel} {before paths more : List UnitPath} {u : UnitPath} {all ms : List NamedMember}
     {m : NamedMember} {old mid new : List Node} (v : UnitPath) → IsWider paths more
-    → MakesUnit s u m v → (g : Grows s before paths (Front s u all (m ∷ ms)) old mid)
-    → Grows s (before ++ g.units) more (ListsUnits s true v) mid new → Grows s before more (Front s u all ms) old new
+    → MakesUnit s u m v → (g : GainsUnitNodes s before paths (Front s u all (m ∷ ms)) old mid)
+    → GainsUnitNodes s (before ++ g.units) more (ListsUnits s true v) mid new → GainsUnitNodes s before more (Front s u all ms) old new
 front_makes {s = s} {before = before} {more = more} {u = u} {all = all} {old = old} v x k g h = record {
   units = g.units ++ h.units;
   are = λ w vs d. subst (λ ws. Insides s w u all ws) (sym (append_assoc g.units h.units vs))
@@ -234,7 +234,7 @@ front_makes {s = s} {before = before} {more = more} {u = u} {all = all} {old = o
 
 front_all : {s : RootedModel} {before paths : List UnitPath} {u : UnitPath} {all : List NamedMember}
     {old new : List Node}
-    → Grows s before paths (Front s u all []) old new → Grows s before paths (Insides s true u all) old new
+    → GainsUnitNodes s before paths (Front s u all []) old new → GainsUnitNodes s before paths (Insides s true u all) old new
 front_all {s = s} {u = u} {all = all} g = record {
   units = g.units;
   are = subst (λ ws. Insides s true u all ws) (append-nil g.units) (g.are true [] none);
@@ -271,8 +271,8 @@ insides_only s u (g ∷ gs) whole us d = go (λ w vs. insides_only s u gs w vs) 
 -- a unit's own node and those inside it
 unit_grows : {s : RootedModel} {before paths : List UnitPath} {old new : List Node} (v : UnitPath) (d : Node)
     → length v < 64 → IsOutline s before v d.outline → Stands paths d.unit v
-    → Grows s (before ++ v ∷ []) paths (Insides s true v (names_at s v)) (old ++ d ∷ []) new
-    → Grows s before paths (ListsUnits s true v) old new
+    → GainsUnitNodes s (before ++ v ∷ []) paths (Insides s true v (names_at s v)) (old ++ d ∷ []) new
+    → GainsUnitNodes s before paths (ListsUnits s true v) old new
 unit_grows {s = s} {before = before} {paths = paths} {old = old} v d l o n g = record {
   units = v ∷ g.units;
   are = unit g.are;
@@ -296,10 +296,10 @@ drop_here gs i g p = drop_from gs i g p ∙ ap (λ k. g ∷ drop k gs) (sym (add
 
 front_item : {s : RootedModel} {before paths : List UnitPath} {u : UnitPath} {gs : List NamedMember}
     {old mid : List Node} (i : ℕ) (g : NamedMember) → Stands gs i g
-    → Grows s before paths (Front s u gs (drop i gs)) old mid
-    → Grows s before paths (Front s u gs (g ∷ drop (i + 1) gs)) old mid
+    → GainsUnitNodes s before paths (Front s u gs (drop i gs)) old mid
+    → GainsUnitNodes s before paths (Front s u gs (g ∷ drop (i + 1) gs)) old mid
 front_item {s = s} {before = before} {paths = paths} {u = u} {gs = gs} {old = old} {mid = mid} i g p h =
-    subst (λ r. Grows s before paths (Front s u gs r) old mid) (drop_here gs i g p) h
+    subst (λ r. GainsUnitNodes s before paths (Front s u gs r) old mid) (drop_here gs i g p) h
 
 more_length : (s : RootedModel) (before paths : List UnitPath) (old mid : List Node) (us : List UnitPath)
     (ds : List Node) → length before ≡ length old → mid ≡ old ++ ds → Tied s (before ++ us) paths us ds
@@ -345,13 +345,13 @@ pub record Fronts (s : RootedModel) (first now : Table) (old mid : List Node) (u
     (gs : List NamedMember) (i : ℕ) : Type 0 where
   pub run : IsRun s first now
   pub front : (before : List UnitPath) → length before ≡ length old → Stands before at u
-      → Grows s before (paths_of now) (Front s u gs (drop i gs)) old mid
+      → GainsUnitNodes s before (table_paths now) (Front s u gs (drop i gs)) old mid
 
 pub fronts_none : (s : RootedModel) (t : Table) (old : List Node) (u : UnitPath) (at : ℕ) (gs : List NamedMember)
-    → IsTable s [] t → Fronts s t t old old u at gs 0
+    → IsWalkTable s [] t → Fronts s t t old old u at gs 0
 fronts_none s t old u at gs k = record {
   run = record { table = k; extends = extends_none t };
-  front = λ before l p. front_none s before (paths_of t) u gs old;
+  front = λ before l p. front_none s before (table_paths t) u gs old;
 }
 
 run_both : {s : RootedModel} {old mid new : Table} → IsRun s old mid → IsRun s mid new → IsRun s old new
@@ -363,17 +363,17 @@ pub fronts_passed : (s : RootedModel) (first now next : Table) (old mid : List N
     → Fronts s first next old mid u at gs (i + 1)
 fronts_passed s first now next old mid u at gs i g o p d n w = record {
   run = run_both w.run d.run;
-  front = λ before l q. front_pass (wider d.run.extends) (subst (λ o. IsMade s (paths_of next) u g o) n d.made)
+  front = λ before l q. front_pass (wider d.run.extends) (subst (λ o. MakesInnerUnit s (table_paths next) u g o) n d.made)
       (front_item i g p (w.front before l q));
 }
 
 pub fronts_grown : (s : RootedModel) (first now next last : Table) (old mid new : List Node) (u : UnitPath)
     (at : UnitId) (gs : List NamedMember) (i k : ℕ) (g : NamedMember) (o : Option ℕ) → Stands gs i g
     → (d : IsMadeBy s now next u g o) → o ≡ Some k
-    → ((v : UnitPath) → Stands (paths_of next) k v → MakesUnit s u g v → HasGrown s v (Some at) next last mid new)
+    → ((v : UnitPath) → Stands (table_paths next) k v → MakesUnit s u g v → HasGrown s v (Some at) next last mid new)
     → Fronts s first now old mid u at.n gs i → Fronts s first last old new u at.n gs (i + 1)
 fronts_grown s first now next last old mid new u at gs i k g o p d n call w =
-    let m = subst (λ o. IsMade s (paths_of next) u g o) n d.made in
+    let m = subst (λ o. MakesInnerUnit s (table_paths next) u g o) n d.made in
     let grown = call m.0 m.1 m.2 in
     let e = made_inside s u m.0 g m.2 in
     record {
@@ -383,7 +383,7 @@ fronts_grown s first now next last old mid new u at gs i k g o p d n call w =
           let up = owner_inside (before ++ h.units) u m.0 e.0 at e.1 (stands_left before h.units at.n u q) in
           front_makes m.0 (wider (extends_both d.run.extends grown.run.extends)) m.2 h
           (grown.grows (before ++ h.units)
-          (more_length s before (paths_of now) old mid h.units h.nodes l h.grown h.tied) up);
+          (more_length s before (table_paths now) old mid h.units h.nodes l h.grown h.tied) up);
     }
 
 pub fronts_all : (s : RootedModel) (first now : Table) (old mid : List Node) (u : UnitPath) (at i : ℕ)
@@ -392,7 +392,7 @@ pub fronts_all : (s : RootedModel) (first now : Table) (old mid : List Node) (u 
 fronts_all s first now old mid u at i e w = record {
   run = w.run;
   grows = λ before l p.
-      let g = front_all (subst (λ r. Grows s before (paths_of now) (Front s u (only_units (names_at s u)) r) old mid)
+      let g = front_all (subst (λ r. GainsUnitNodes s before (table_paths now) (Front s u (only_units (names_at s u)) r) old mid)
       (drop_all i (only_units (names_at s u)) e) (w.front before l p)) in
       record {
         units = g.units;
@@ -418,15 +418,15 @@ if_limit (Err e) k h = k e h
 pub fronts_over : (s : RootedModel) (e : RuleFault) (first now next : Table) (old mid : List Node) (u : UnitPath)
     (at : UnitId) (i k : ℕ) (g : NamedMember) (o : Option ℕ) → Stands (only_units (names_at s u)) i g
     → (d : IsMadeBy s now next u g o) → o ≡ Some k
-    → ((v : UnitPath) → Stands (paths_of next) k v → MakesUnit s u g v → HasPassed s v (Some at) mid e)
+    → ((v : UnitPath) → Stands (table_paths next) k v → MakesUnit s u g v → HasPassed s v (Some at) mid e)
     → Fronts s first now old mid u at.n (only_units (names_at s u)) i → HasPassedInside s u at.n old e
 fronts_over s e first now next old mid u at i k g o p d n call w =
-    let m = subst (λ o. IsMade s (paths_of next) u g o) n d.made in
+    let m = subst (λ o. MakesInnerUnit s (table_paths next) u g o) n d.made in
     let v = made_inside s u m.0 g m.2 in
     on_limit e (λ passed before l sh q.
     let h = front_item i g p (w.front before l q) in
     let up = owner_inside (before ++ h.units) u m.0 v.0 at v.1 (stands_left before h.units at.n u q) in
-    let t = passed (before ++ h.units) (more_length s before (paths_of now) old mid h.units h.nodes l h.grown h.tied)
+    let t = passed (before ++ h.units) (more_length s before (table_paths now) old mid h.units h.nodes l h.grown h.tied)
     (shallow_both before h.units sh h.shallow) up in
     record {
       units = h.units ++ t.units;
@@ -444,7 +444,7 @@ long_more before v old mid d e l = length-append before (v ∷ []) ∙ ap (λ n.
 
 -- the node of a unit, read off the table
 pub outline_of : (s : RootedModel) (t : Table) (a : ℕ) (u : UnitPath) (d : Met) (n : Node) (before : List UnitPath)
-    → IsTable s [] t → Stands (paths_of t) a u → Some d ≡ slice_get t.units.items a
+    → IsWalkTable s [] t → Stands (table_paths t) a u → Some d ≡ slice_get t.units.items a
     → n.outline.name ≡ d.name → n.outline.body ≡ d.body → n.outline.set_at ≡ d.set_at → IsOwner before u n.outline.owner
     → IsOutline s before u n.outline
 outline_of s t a u d n before k p e x b z o =
@@ -459,14 +459,14 @@ outline_of s t a u d n before k p e x b z o =
 pub unit_grown : (s : RootedModel) (first last : Table) (v : UnitPath) (old mid new : List Node) (d : Node) (at : ℕ)
     → mid ≡ old ++ d ∷ [] → at ≡ length old → length v < 64
     → ((before : List UnitPath) → IsOwner before v d.outline.owner → IsOutline s before v d.outline)
-    → Stands (paths_of first) d.unit v
+    → Stands (table_paths first) d.unit v
     → HasGrownInside s v at first last mid new → HasGrown s v d.outline.owner first last old new
 unit_grown s first last v old mid new d at e a sh o n w = record {
   run = w.run;
   grows = λ before l owner.
       let g = w.grows (before ++ v ∷ []) (long_more before v old mid d e l) (stands_last before v at (a ∙ sym l)) in
       unit_grows v d sh (o before owner) (w.run.extends.units d.unit v n)
-      (subst (λ mid. Grows s (before ++ v ∷ []) (paths_of last) (Insides s true v (names_at s v)) mid new) e g);
+      (subst (λ mid. GainsUnitNodes s (before ++ v ∷ []) (table_paths last) (Insides s true v (names_at s v)) mid new) e g);
 }
 
 -- a limit is passed at the unit itself
@@ -524,9 +524,9 @@ names_length s f u b names k e q =
 
 -- All units
 
-pub depth_first : (s : RootedModel) (first : Table) → IsTable s [] first → (path : UnitPath)
-    → Stands (paths_of first) 0 path → length path + 64 ≡ 64
-depth_first s first k path p = let h = ap length (stands_one (paths_of first) 0 path [] p k.main) in omega arith
+pub depth_first : (s : RootedModel) (first : Table) → IsWalkTable s [] first → (path : UnitPath)
+    → Stands (table_paths first) 0 path → length path + 64 ≡ 64
+depth_first s first k path p = let h = ap length (stands_one (table_paths first) 0 path [] p k.main) in omega arith
 
 pub refused : (m : RootedModel) (e : RuleFault) (old : List Node) → old ≡ [] → HasPassed m [] None old e
     → RefusesUnits m e
@@ -549,14 +549,14 @@ pub unfolded : (m : RootedModel) (first : Table) (old : List Node) (r : Unfolded
 unfolded m first old r z small e f w =
     let g = w.grows [] (ap length (sym z)) of_main in
     let n : r.nodes.items ≡ g.nodes = g.grown ∙ ap (λ ds. ds ++ g.nodes) z in
-    let t = subst (λ ds. Tied m g.units (paths_of r.table) g.units ds) (sym n) g.tied in (
+    let t = subst (λ ds. Tied m g.units (table_paths r.table) g.units ds) (sym n) g.tied in (
       g.units,
       record {
         are_units = g.are;
         shallow = are_shallow g.units g.shallow;
         few = let k = along_length g.units r.nodes.items t in omega (arith, k, small);
         outlines = subst (λ os. Along (IsOutline m g.units) g.units os) (sym e)
-            (outlines_along m g.units (paths_of r.table) g.units r.nodes.items t);
+            (outlines_along m g.units (table_paths r.table) g.units r.nodes.items t);
         nodes = t;
         forms = f;
         table = w.run.table;

@@ -9,7 +9,7 @@ use Rattle.ar_base.proofs.Standing.{stands_one, along_on, along_back, stands_non
 use Rattle.class_table.specs.Members.{Site, NamedMember, named_at, member_named}
 use Rattle.hierarchy.specs.Models.{RootedModel}
 use Rattle.hierarchy.specs.UnitsInside.{names_in}
-use Rattle.unit_walks.specs.Forms.{kind_in, may_be_unit, only_units, IsUnitName, IsLookedUp, is, no_unit, absent, items_of, list_at, place_at, form_from, form_at, HasName, IsFormsFor}
+use Rattle.unit_walks.specs.Forms.{member_kind_in, may_be_unit, only_units, IsUnitName, IsLookedUp, is, no_unit, absent, body_names, list_at, name_place, form_from, form_at, HasUnitName, IsFormsFor}
 use Rattle.unit_walks.specs.declared.forms.Forms.{Forms}
 use Rattle.unit_walks.specs.declared.forms.UnitName.{UnitName}
 
@@ -89,7 +89,7 @@ module _ (m : RootedModel) (f : Forms) (i : IsFormsFor m f) where
     where
       go : (o : Option (Vec UnitName Global)) → slice_get f.lists.items b ≡ o → (p : Option (List Site))
           → slice_get m.members b ≡ p
-          → Along IsUnitName (items_of o) (only_units (named_at m.declared (unwrap_or p [])))
+          → Along IsUnitName (body_names o) (only_units (named_at m.declared (unwrap_or p [])))
       go None e None h = a.none
       go None e (Some sites) h = let q = along_back f.lists.items m.members i.lists b sites h in none_some (sym e ∙ q.1)
       go (Some list) e p h =
@@ -97,7 +97,7 @@ module _ (m : RootedModel) (f : Forms) (i : IsFormsFor m f) where
           subst (λ p. Along IsUnitName list.items (only_units (named_at m.declared (unwrap_or p [])))) (sym q.1 ∙ h) q.2
 
   -- a name that stands in a body is what the first of its name is
-  pub only_kind : (b n : ℕ) (g : NamedMember) → Stands (names_in m b) n g → kind_in m b g.name ≡ Some g.kind
+  pub only_kind : (b n : ℕ) (g : NamedMember) → Stands (names_in m b) n g → member_kind_in m b g.name ≡ Some g.kind
   only_kind b n g p =
       let h = first_named (names_in m b) n g p in
       let k = named_first (names_in m b) g.name h.0 h.1 in
@@ -106,25 +106,25 @@ module _ (m : RootedModel) (f : Forms) (i : IsFormsFor m f) where
       ap (λ (o : Option NamedMember). option_map (λ (g : NamedMember). g.kind) o) (h.1 ∙ ap Some same)
 
   list_here : (b : ℕ) (list : Vec UnitName Global) → Stands f.lists.items b list → list_at f b ≡ list.items
-  list_here b list e = ap items_of e
+  list_here b list e = ap body_names e
 
   -- where the list of a body has a name, it is found
-  found_at : (b x k : ℕ) → place_at f b x ≡ Some k → (n : UnitName) × Stands (list_at f b) k n × (n.name.n ≡ x)
+  found_at : (b x k : ℕ) → name_place f b x ≡ Some k → (n : UnitName) × Stands (list_at f b) k n × (n.name.n ≡ x)
   found_at b x k e = let h = i.index b x k e in (h.named, subst (λ ns. Stands ns k h.named) (sym (list_here b h.list h.has_list)) h.has_name, h.name)
 
-  looked_some : (b x k : ℕ) → place_at f b x ≡ Some k → IsLookedUp (form_from (list_at f b) (Some k)) (kind_in m b x)
+  looked_some : (b x k : ℕ) → name_place f b x ≡ Some k → IsLookedUp (form_from (list_at f b) (Some k)) (member_kind_in m b x)
   looked_some b x k e =
       let n = found_at b x k e in
       let g = along_on (list_at f b) (only_units (names_in m b)) (list_along b) k n.0 n.1 in
       let back = units_back (names_in m b) k g.0 g.1 in
-      let kind : kind_in m b x ≡ Some g.0.kind =
-      ap (kind_in m b) (sym n.2 ∙ g.2.name) ∙ only_kind b back.0.0 g.0 back.0.1 in
+      let kind : member_kind_in m b x ≡ Some g.0.kind =
+      ap (member_kind_in m b) (sym n.2 ∙ g.2.name) ∙ only_kind b back.0.0 g.0 back.0.1 in
       let form : form_from (list_at f b) (Some k) ≡ Some n.0.form =
       ap (λ (o : Option UnitName). option_map (λ (n : UnitName). n.form) o) n.1 in
-      subst (λ o. IsLookedUp o (kind_in m b x)) (sym form)
+      subst (λ o. IsLookedUp o (member_kind_in m b x)) (sym form)
       (subst (λ o. IsLookedUp (Some n.0.form) o) (sym kind) (is g.2.form))
 
-  looked_not : (b x : ℕ) → place_at f b x ≡ None → IsLookedUp None (kind_in m b x)
+  looked_not : (b x : ℕ) → name_place f b x ≡ None → IsLookedUp None (member_kind_in m b x)
   looked_not b x e = go (member_named (names_in m b) x) refl
     where
       -- a name that may be a unit is in the list, and so it would be found
@@ -136,7 +136,7 @@ module _ (m : RootedModel) (f : Forms) (i : IsFormsFor m f) where
           none_some (sym e ∙ h.1)
         where
           has : (o : Option (Vec UnitName Global)) → slice_get f.lists.items b ≡ o → (k : ℕ) (z : UnitName)
-              → Stands (items_of o) k z → z.name.n ≡ x → HasName f.lists.items b k x
+              → Stands (body_names o) k z → z.name.n ≡ x → HasUnitName f.lists.items b k x
           has None e k z p q = absurd (stands_none k z p)
           has (Some list) e k z p q = record { list = list; named = z; has_list = e; has_name = p; name = q }
 
@@ -151,9 +151,9 @@ module _ (m : RootedModel) (f : Forms) (i : IsFormsFor m f) where
       go (Some g) h = let k = named_first (names_in m b) x g h in kinds g k.0 k.1 k.2 (may_be_unit g.kind) refl
 
   -- what is looked up is what the name is
-  pub looked_up : (b x : ℕ) → IsLookedUp (form_at f b x) (kind_in m b x)
-  looked_up b x = go (place_at f b x) refl
+  pub looked_up : (b x : ℕ) → IsLookedUp (form_at f b x) (member_kind_in m b x)
+  looked_up b x = go (name_place f b x) refl
     where
-      go : (o : Option ℕ) → place_at f b x ≡ o → IsLookedUp (form_from (list_at f b) o) (kind_in m b x)
+      go : (o : Option ℕ) → name_place f b x ≡ o → IsLookedUp (form_from (list_at f b) o) (member_kind_in m b x)
       go None e = looked_not b x e
       go (Some k) e = looked_some b x k e

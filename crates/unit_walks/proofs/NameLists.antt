@@ -23,7 +23,7 @@ use Rattle.hierarchy.specs.Models.{RootedModel}
 use Rattle.hierarchy.specs.ModelsInside.{KeepsTextRules, sites_kept}
 use Rattle.hierarchy.specs.UnitsInside.{names_in}
 use Rattle.unit_walks.specs.Classes.{ClassBodies, instance_in, AreClasses}
-use Rattle.unit_walks.specs.Forms.{may_be_unit, only_units, instances, IsUnitName, IsUnitList, same_pair, HasName, AreIndexed, AreOnce, IsFormsFor, inner}
+use Rattle.unit_walks.specs.Forms.{may_be_unit, only_units, instances, IsUnitName, IsUnitList, same_pair, HasUnitName, AreIndexed, AreOnce, IsFormsFor, inner}
 use Rattle.unit_walks.specs.declared.forms.Forms.{Forms}
 use Rattle.unit_walks.specs.declared.forms.UnitForm.TheVariants as unit
 use Rattle.unit_walks.specs.declared.forms.UnitName.{UnitName}
@@ -111,7 +111,7 @@ units_next d xs x = ap only_units (named_join d xs (x ∷ [])
 -- Places
 
 module _ (lists : List (Vec UnitName Global)) where
-  one_name : (b i x y : ℕ) → HasName lists b i x → HasName lists b i y → x ≡ y
+  one_name : (b i x y : ℕ) → HasUnitName lists b i x → HasUnitName lists b i y → x ≡ y
   one_name b i x y p q =
       let e = stands_one lists b p.list q.list p.has_list q.has_list in
       let n = stands_one q.list.items i p.named q.named (subst (λ l. Stands l.items i p.named) e p.has_name)
@@ -119,7 +119,7 @@ module _ (lists : List (Vec UnitName Global)) where
       sym p.name ∙ ap (λ n. n.name.n) n ∙ q.name
 
   pub name_at : (b i : ℕ) (l : Vec UnitName Global) (n : UnitName) → Stands lists b l → Stands l.items i n
-      → HasName lists b i n.name.n
+      → HasUnitName lists b i n.name.n
   name_at b i l n p q = record { list = l; named = n; has_list = p; has_name = q; name = refl }
 
 module _ {S : Type 0} (lists : List (Vec UnitName Global)) where
@@ -130,7 +130,7 @@ module _ {S : Type 0} (lists : List (Vec UnitName Global)) where
     all = λ c k x n w. elim w [ inl l ↦ absurd (omega (arith, l)) | inr l ↦ absurd (omega (arith, l.1)) ];
   }
 
-  pub index_more : (b i x : ℕ) (old new : HashMap (ℕ × ℕ) ℕ S) → HasName lists b i x → AreIndexed lists b i old
+  pub index_more : (b i x : ℕ) (old new : HashMap (ℕ × ℕ) ℕ S) → HasUnitName lists b i x → AreIndexed lists b i old
       → get same_pair new (b, x) ≡ Some i
       → ((q : ℕ × ℕ) → same_pair (b, x) q ≡ false → get same_pair new q ≡ get same_pair old q)
       → AreIndexed lists b (i + 1) new
@@ -148,25 +148,25 @@ module _ {S : Type 0} (lists : List (Vec UnitName Global)) where
           (subst (λ y. get same_pair new (b, y) ≡ Some i) (sym q) here)
 
       found : (c y k : ℕ) → get same_pair new (c, y) ≡ Some k → (c ≡ b) ⊎ (c ≡ b → ⊥) → (y ≡ x) ⊎ (y ≡ x → ⊥)
-          → HasName lists c k y
+          → HasUnitName lists c k y
       found c y k e (inl p) (inl q) =
           let z : i ≡ k = same_Some _ _ (sym (same c y p q) ∙ e) in
-          subst (λ c. HasName lists c k y) (sym p)
-          (subst (λ y. HasName lists b k y) (sym q) (subst (λ k. HasName lists b k x) z n))
+          subst (λ c. HasUnitName lists c k y) (sym p)
+          (subst (λ y. HasUnitName lists b k y) (sym q) (subst (λ k. HasUnitName lists b k x) z n))
       found c y k e (inl p) (inr q) = w.found c y k (sym (back c y (λ z. q z.1)) ∙ e)
       found c y k e (inr p) q = w.found c y k (sym (back c y (λ z. p z.0)) ∙ e)
 
-      before : (c k y : ℕ) → HasName lists c k y → (c < b) ⊎ ((c ≡ b) × (k < i)) → ((c ≡ b) × (y ≡ x) → ⊥)
+      before : (c k y : ℕ) → HasUnitName lists c k y → (c < b) ⊎ ((c ≡ b) × (k < i)) → ((c ≡ b) × (y ≡ x) → ⊥)
           → (j : ℕ) × (get same_pair new (c, y) ≡ Some j)
       before c k y h l z = let g = w.all c k y h l in (g.0, back c y z ∙ g.1)
 
-      at_last : (c k y : ℕ) → HasName lists c k y → (c ≡ b) × (k < i + 1) → (k ≡ i) ⊎ (k ≡ i → ⊥) → (y ≡ x → ⊥)
+      at_last : (c k y : ℕ) → HasUnitName lists c k y → (c ≡ b) × (k < i + 1) → (k ≡ i) ⊎ (k ≡ i → ⊥) → (y ≡ x → ⊥)
           → (j : ℕ) × (get same_pair new (c, y) ≡ Some j)
       at_last c k y h l (inl e) q = absurd
-          (q (one_name lists b i y x (subst (λ c. HasName lists c i y) l.0 (subst (λ k. HasName lists c k y) e h)) n))
+          (q (one_name lists b i y x (subst (λ c. HasUnitName lists c i y) l.0 (subst (λ k. HasUnitName lists c k y) e h)) n))
       at_last c k y h l (inr e) q = before c k y h (inr (l.0, omega (arith, l.1, e))) (λ z. q z.1)
 
-      all : (c k y : ℕ) → HasName lists c k y → (c < b) ⊎ ((c ≡ b) × (k < i + 1)) → (c ≡ b) ⊎ (c ≡ b → ⊥)
+      all : (c k y : ℕ) → HasUnitName lists c k y → (c < b) ⊎ ((c ≡ b) × (k < i + 1)) → (c ≡ b) ⊎ (c ≡ b → ⊥)
           → (y ≡ x) ⊎ (y ≡ x → ⊥) → (j : ℕ) × (get same_pair new (c, y) ≡ Some j)
       all c k y h l (inl p) (inl q) = (i, same c y p q)
       all c k y h (inl l) (inl p) (inr q) = before c k y h (inl l) (λ z. q z.1)
@@ -193,12 +193,12 @@ module _ {S : Type 0} (lists : List (Vec UnitName Global)) where
         [ inl j ↦ go c k x h j (cases_eq c b) | inr j ↦ absurd (omega (arith, j.1)) ];
   }
     where
-      inside : (c k x : ℕ) → HasName lists c k x → c ≡ b → k < i
+      inside : (c k x : ℕ) → HasUnitName lists c k x → c ≡ b → k < i
       inside c k x h q =
           let same = stands_one lists b h.list l (subst (λ c. Stands lists c h.list) q h.has_list) p in
           let j = stands_within l.items k h.named (subst (λ l. Stands l.items k h.named) same h.has_name) in omega arith
 
-      go : (c k x : ℕ) → HasName lists c k x → c < b + 1 → (c ≡ b) ⊎ (c ≡ b → ⊥)
+      go : (c k x : ℕ) → HasUnitName lists c k x → c < b + 1 → (c ≡ b) ⊎ (c ≡ b → ⊥)
           → (j : ℕ) × (get same_pair places (c, x) ≡ Some j)
       go c k x h j (inl q) = w.all c k x h (inr (q, inside c k x h q))
       go c k x h j (inr q) = w.all c k x h (inl (omega arith))

@@ -15,10 +15,10 @@ use Rattle.hierarchy.specs.Tie.{IsOwner, of_main, of_unit, IsNameOfUnit}
 use Rattle.hierarchy.specs.Walks.{NameLeads, no_unit, absent}
 use Rattle.hierarchy.specs.Walks as leads
 use Rattle.unit_walks.specs.Forms.{AreOnce, may_be_unit, only_units, same_pair}
-use Rattle.unit_walks.specs.Tables.{paths_of, Above, IsTable, Means, EndsAt}
-use Rattle.unit_walks.specs.Walking.{IsRun, IsKnown}
+use Rattle.unit_walks.specs.Tables.{table_paths, Above, IsWalkTable, EntryMeans, EndsAt}
+use Rattle.unit_walks.specs.Walking.{IsRun, IsNameKnown}
 use Rattle.unit_walks.specs.Growing.{Tied}
-use Rattle.unit_walks.specs.Settling.{IsLed, IsLedBy, kept_at, AreOutcomes, Keeps, AreChildrenTo, AreChildren, IsNumber, IsSettledTo, SettlesUnit}
+use Rattle.unit_walks.specs.Settling.{IsLed, IsLedBy, kept_walk_at, AreOutcomes, KeepsAnswer, AreChildrenTo, AreNumberedChildren, IsUnitNumber, IsSettledTo, SettlesUnit}
 use Rattle.unit_walks.specs.declared.tables.Table.{Table}
 use Rattle.unit_walks.specs.declared.tables.Known.{Known}
 use Rattle.unit_walks.specs.declared.tables.Known.TheVariants as c
@@ -136,8 +136,8 @@ above_some paths (l ∷ above) o k (n, i, h) e =
 -- the number of a unit is that which is found by the unit above it
 pub child_found : {S : Type 0} (m : RootedModel) (units : List UnitPath) (children : HashMap (ℕ × ℕ) UnitId S)
     (l : UnitLevel) (above : UnitPath) (a x : ℕ) (o : Option UnitId) → AreOnce m → AreUnits m units
-    → AreChildren units children → IsOneOf units (l ∷ above) → Stands units a above → x ≡ l.name
-    → o ≡ get same_pair children (a, x) → IsNumber units (l ∷ above) o
+    → AreNumberedChildren units children → IsOneOf units (l ∷ above) → Stands units a above → x ≡ l.name
+    → o ≡ get same_pair children (a, x) → IsUnitNumber units (l ∷ above) o
 child_found m units children l above a x None once are w j s e h =
     let within = stands_within units j.place (l ∷ above) j.stands in
     let r = w.all a j.place l above within s j.stands in
@@ -159,16 +159,16 @@ pub ends_there : (m : RootedModel) (units paths : List UnitPath) (u : UnitPath) 
 ends_there m units paths u x k are j d = ends_listed m units are d.ends refl j d.path refl
 
 pub led_nowhere : (m : RootedModel) (units paths : List UnitPath) (a x : ℕ) (u : UnitPath)
-    → Means m paths [] a u x c.Nothing → IsLed m units u x led.Nothing
+    → EntryMeans m paths [] a u x c.Nothing → IsLed m units u x led.Nothing
 led_nowhere m units paths a x u d = leads_nowhere m u x d
 
 pub led_loops : (m : RootedModel) (units paths : List UnitPath) (a x : ℕ) (u : UnitPath)
-    → Means m paths [] a u x c.Loops → IsLed m units u x led.Loops
+    → EntryMeans m paths [] a u x c.Loops → IsLed m units u x led.Loops
 led_loops m units paths a x u d = d.loops [] (none_endless m)
 
 pub led_known : (m : RootedModel) (units : List UnitPath) (old new : Table) (a x : ℕ) (u : UnitPath) (k : Known)
-    (r : Led) → IsKnown m old new a x k → Stands (paths_of old) a u
-    → (IsTable m [] new → Means m (paths_of new) [] a u x k → IsLed m units u x r) → IsLedBy m units old new u x r
+    (r : Led) → IsNameKnown m old new a x k → Stands (table_paths old) a u
+    → (IsWalkTable m [] new → EntryMeans m (table_paths new) [] a u x k → IsLed m units u x r) → IsLedBy m units old new u x r
 led_known m units old new a x u k r i p f = record {
   run = record { table = i.table; extends = i.extends };
   is_led = f i.table (i.known u (i.extends.units a u p));
@@ -181,11 +181,11 @@ pub record Settling (m : RootedModel) (units : List UnitPath) (n i : ℕ) (old n
   pub run : IsRun m old new
   pub settled : IsSettledTo m units n i w
 
-pub settling_start : (m : RootedModel) (units : List UnitPath) (n i : ℕ) (t : Table) (w : Walks) → IsTable m [] t
+pub settling_start : (m : RootedModel) (units : List UnitPath) (n i : ℕ) (t : Table) (w : Walks) → IsWalkTable m [] t
     → IsSettledTo m units n i w → Settling m units n i t t w
 settling_start m units n i t w k s = record { run = record { table = k; extends = extends_none t }; settled = s }
 
-pub settled_none : (m : RootedModel) (units : List UnitPath) (w : Walks) → ((k x : ℕ) → kept_at w k x ≡ None)
+pub settled_none : (m : RootedModel) (units : List UnitPath) (w : Walks) → ((k x : ℕ) → kept_walk_at w k x ≡ None)
     → IsSettledTo m units 0 0 w
 settled_none m units w h = record {
   right = λ k x r u e p. none_some (sym (h k x) ∙ e);
@@ -193,16 +193,16 @@ settled_none m units w h = record {
 }
 
 pub settled_more : (m : RootedModel) (units : List UnitPath) (n i x : ℕ) (old new : Walks) (u : UnitPath)
-    (g : NamedMember) (r : Led) → IsSettledTo m units n i old → Keeps old new n x r → IsLed m units u x r
+    (g : NamedMember) (r : Led) → IsSettledTo m units n i old → KeepsAnswer old new n x r → IsLed m units u x r
     → Stands units n u
     → Stands (only_units (names_at m u)) i g → g.name ≡ x → IsSettledTo m units n (i + 1) new
 settled_more m units n i x old new u g r w k d p q named =
     record { right = λ j y z v e s. right j y z v e s (cases_eq j n) (cases_eq y x); all = all }
   where
-    here : (j y : ℕ) → j ≡ n → y ≡ x → kept_at new j y ≡ Some r
-    here j y e f = subst (λ j. kept_at new j y ≡ Some r) (sym e) (subst (λ y. kept_at new n y ≡ Some r) (sym f) k.here)
+    here : (j y : ℕ) → j ≡ n → y ≡ x → kept_walk_at new j y ≡ Some r
+    here j y e f = subst (λ j. kept_walk_at new j y ≡ Some r) (sym e) (subst (λ y. kept_walk_at new n y ≡ Some r) (sym f) k.here)
 
-    right : (j y : ℕ) (z : Led) (v : UnitPath) → kept_at new j y ≡ Some z → Stands units j v → (j ≡ n) ⊎ (j ≡ n → ⊥)
+    right : (j y : ℕ) (z : Led) (v : UnitPath) → kept_walk_at new j y ≡ Some z → Stands units j v → (j ≡ n) ⊎ (j ≡ n → ⊥)
         → (y ≡ x) ⊎ (y ≡ x → ⊥) → IsLed m units v y z
     right j y z v e s (inl a) (inl b) =
         let same : u ≡ v = stands_one units n u v p (subst (λ j. Stands units j v) a s) in
@@ -214,13 +214,13 @@ settled_more m units n i x old new u g r w k d p q named =
 
     before : (j l : ℕ) (v : UnitPath) (h : NamedMember) → Stands units j v → Stands (only_units (names_at m v)) l h
         → (j < n) ⊎ ((j ≡ n) × (l < i)) → (j ≡ n) ⊎ (j ≡ n → ⊥) → (h.name ≡ x) ⊎ (h.name ≡ x → ⊥)
-        → (r : Led) × (kept_at new j h.name ≡ Some r)
+        → (r : Led) × (kept_walk_at new j h.name ≡ Some r)
     before j l v h s t o (inl a) (inl b) = (r, here j h.name a b)
     before j l v h s t o (inl a) (inr b) = let z = w.all j l v h s t o in (z.0, k.other j h.name (λ y. b y.1) ∙ z.1)
     before j l v h s t o (inr a) b = let z = w.all j l v h s t o in (z.0, k.other j h.name (λ y. a y.0) ∙ z.1)
 
     last : (j l : ℕ) (v : UnitPath) (h : NamedMember) → Stands units j v → Stands (only_units (names_at m v)) l h
-        → j ≡ n → l ≡ i → (r : Led) × (kept_at new j h.name ≡ Some r)
+        → j ≡ n → l ≡ i → (r : Led) × (kept_walk_at new j h.name ≡ Some r)
     last j l v h s t a e =
         let same : u ≡ v = stands_one units n u v p (subst (λ j. Stands units j v) a s) in
         let at = subst (λ v. Stands (only_units (names_at m v)) l h) (sym same) t in
@@ -229,7 +229,7 @@ settled_more m units n i x old new u g r w k d p q named =
         (r, here j h.name a (ap (λ (g : NamedMember). g.name) (sym is) ∙ named))
 
     all : (j l : ℕ) (v : UnitPath) (h : NamedMember) → Stands units j v → Stands (only_units (names_at m v)) l h
-        → (j < n) ⊎ ((j ≡ n) × (l < i + 1)) → (r : Led) × (kept_at new j h.name ≡ Some r)
+        → (j < n) ⊎ ((j ≡ n) × (l < i + 1)) → (r : Led) × (kept_walk_at new j h.name ≡ Some r)
     all j l v h s t (inl o) = before j l v h s t (inl o) (cases_eq j n) (cases_eq h.name x)
     all j l v h s t (inr o) = elim (cases_eq l i) [
       | inl e ↦ last j l v h s t o.0 e
@@ -238,7 +238,7 @@ settled_more m units n i x old new u g r w k d p q named =
 
 pub settling_more : (m : RootedModel) (units : List UnitPath) (n i x : ℕ) (first now next : Table) (old new : Walks)
     (u : UnitPath) (g : NamedMember) (r : Led) → Settling m units n i first now old
-    → IsLedBy m units now next u x r → Keeps old new n x r → Stands units n u → Stands (only_units (names_at m u)) i g
+    → IsLedBy m units now next u x r → KeepsAnswer old new n x r → Stands units n u → Stands (only_units (names_at m u)) i g
     → g.name ≡ x → Settling m units n (i + 1) first next new
 settling_more m units n i x first now next old new u g r w d k p q named = record {
   run = record { table = d.run.table; extends = extends_both w.run.extends d.run.extends };
@@ -262,7 +262,7 @@ settled_unit m units n i u w p l s =
         let h = stands_within (only_units (names_at m u)) j g at in omega arith
 
     go : (k j : ℕ) (v : UnitPath) (g : NamedMember) → Stands units k v → Stands (only_units (names_at m v)) j g
-        → k < n + 1 → (k ≡ n) ⊎ (k ≡ n → ⊥) → (r : Led) × (kept_at w k g.name ≡ Some r)
+        → k < n + 1 → (k ≡ n) ⊎ (k ≡ n → ⊥) → (r : Led) × (kept_walk_at w k g.name ≡ Some r)
     go k j v g q t o (inl e) = s.all k j v g q t (inr (e, inside k j v g q t e))
     go k j v g q t o (inr e) = s.all k j v g q t (inl (omega arith))
 
@@ -282,8 +282,8 @@ settling_next m units n first now next old new w s = record {
 
 -- a unit more of a loop
 pub settled_step : (m : RootedModel) (units : List UnitPath) (first now next : Table) (nodes : List Node) (i n : ℕ)
-    (z : Node) (old new : Walks) → i < length nodes → n ≡ i → Tied m units (paths_of first) units nodes
-    → ((u : UnitPath) → Stands (paths_of now) (get_or nodes i z).unit u
+    (z : Node) (old new : Walks) → i < length nodes → n ≡ i → Tied m units (table_paths first) units nodes
+    → ((u : UnitPath) → Stands (table_paths now) (get_or nodes i z).unit u
     → (get_or nodes i z).outline.body.n ≡ body_of m u → Stands units n u
     → IsSettledTo m units n 0 old → SettlesUnit m units (n + 1) now next new)
     → Settling m units i 0 first now old → Settling m units (i + 1) 0 first next new
@@ -297,23 +297,23 @@ settled_step m units first now next nodes i n z old new l e t call w =
 -- each name of each unit is answered
 pub outcomes : (m : RootedModel) (units : List UnitPath) (n : ℕ) (w : Walks) → length units ≤ n
     → IsSettledTo m units n 0 w → AreOutcomes m units w
-outcomes m units n w l s = record { each = λ k x u p. go k x u p (kept_at w k x) refl }
+outcomes m units n w l s = record { each = λ k x u p. go k x u p (kept_walk_at w k x) refl }
   where
-    kinds : (k x : ℕ) (u : UnitPath) → Stands units k u → kept_at w k x ≡ None → (g : NamedMember)
+    kinds : (k x : ℕ) (u : UnitPath) → Stands units k u → kept_walk_at w k x ≡ None → (g : NamedMember)
         → name_at m u x ≡ Some g → (b : Bool) → may_be_unit g.kind ≡ b → NameLeads m [] u x (Some g.kind) leads.Nothing
     kinds k x u p e g h false f = no_unit (unitless g.kind f)
     kinds k x u p e g h true f =
         let a = named_first (names_at m u) x g h in
         let b = units_there (names_at m u) a.0 g a.1 f in
         let r = s.all k b.0 u g p b.1 (inl (let z = stands_within units k u p in omega arith)) in
-        none_some (sym e ∙ ap (kept_at w k) (sym a.2) ∙ r.1)
+        none_some (sym e ∙ ap (kept_walk_at w k) (sym a.2) ∙ r.1)
 
-    none : (k x : ℕ) (u : UnitPath) → Stands units k u → kept_at w k x ≡ None → (o : Option NamedMember)
+    none : (k x : ℕ) (u : UnitPath) → Stands units k u → kept_walk_at w k x ≡ None → (o : Option NamedMember)
         → name_at m u x ≡ o → NameLeads m [] u x (option_map (λ (g : NamedMember). g.kind) o) leads.Nothing
     none k x u p e None h = absent
     none k x u p e (Some g) h = kinds k x u p e g h (may_be_unit g.kind) refl
 
-    go : (k x : ℕ) (u : UnitPath) → Stands units k u → (o : Option Led) → kept_at w k x ≡ o
+    go : (k x : ℕ) (u : UnitPath) → Stands units k u → (o : Option Led) → kept_walk_at w k x ≡ o
         → IsLed m units u x (unwrap_or o led.Nothing)
     go k x u p (Some r) e = s.right k x r u e p
     go k x u p None e = none k x u p e (name_at m u x) refl

@@ -13,10 +13,10 @@ use Rattle.hierarchy.specs.Units.{UnitPath, UnitLevel, start_of, body_of, set_at
 use Rattle.hierarchy.specs.Walks.{is_unitless}
 use Rattle.hierarchy.specs.Tie.{IsSetAt, none, some}
 use Rattle.unit_walks.specs.Ends.{NameEnds, NamesEnd, NeverEnds, Reached, IsStatement, clone, alias, inner, clones, clones_none, embeds, no_unit, absent, nowhere, arrives, on, stops}
-use Rattle.unit_walks.specs.Forms.{kind_in, may_be_unit, IsFormsFor, IsLookedUp, form_at}
+use Rattle.unit_walks.specs.Forms.{member_kind_in, may_be_unit, IsFormsFor, IsLookedUp, form_at}
 use Rattle.unit_walks.specs.Forms as l
-use Rattle.unit_walks.specs.Tables.{known_at, end_at, level_of, paths_of, StandsIf, HasFrame, EndsAt, EndsNowhere, Means, PathLeads, IsMet, IsTable, IsSet, IsGrown, IsEntered, KeepsEnd}
-use Rattle.unit_walks.specs.Walking.{IsFrame, IsAtStart, Chain, bottom, above, IsWalking, IsAnswered, IsKept, After, IsStep, IsNameStep, IsStatementStep, Steps, weight, Weighs}
+use Rattle.unit_walks.specs.Tables.{known_at, end_at, unit_level, table_paths, StandsIf, HasFrame, EndsAt, EndsNowhere, EntryMeans, PathLeads, IsUnitMet, IsWalkTable, IsEntrySet, IsGrown, IsEntered, KeepsEnd}
+use Rattle.unit_walks.specs.Walking.{IsFrame, IsAtStart, Chain, bottom, above, IsWalking, IsTopAnswered, IsPathKept, After, IsWalkStep, IsNameStep, IsStatementStep, StepsFrom, weight, Weighs}
 use Rattle.unit_walks.specs.declared.forms.Forms.{Forms}
 use Rattle.unit_walks.specs.declared.forms.UnitForm.{UnitForm}
 use Rattle.unit_walks.specs.declared.forms.UnitForm.TheVariants as form
@@ -63,17 +63,17 @@ frame_kept below top next p q b y h =
       | inr k ↦ has_last below next b y (p ∙ k.0) (q ∙ k.1)
     ]
 
-set_weight : {old new : Table} {a x : ℕ} {c : Known} → IsSet old new a x c 0 → weight new ≡ weight old
+set_weight : {old new : Table} {a x : ℕ} {c : Known} → IsEntrySet old new a x c 0 → weight new ≡ weight old
 set_weight {old = old} {new = new} i = let e : new.count ≡ old.count = i.count ∙ (omega arith) in ap (λ n. (16777216 - n) * 2 ^ 65) e
 
 pub answered_weighs : (top : Frame) {old new : Table} {a x : ℕ} {c : Known} (r : Step) → r ≡ Done
-    → IsSet old new a x c 0 → Weighs top old new r
+    → IsEntrySet old new a x c 0 → Weighs top old new r
 answered_weighs top {old = old} {new = new} r e i = subst (λ r. Weighs top old new r) (sym e) (let h = set_weight i in omega (arith, h))
 
 -- the top frame's statement is answered by c
 pub answered : {s : RootedModel} {below : List Frame} {top : Frame} {old new : Table} (c : Known) (r : Step)
-    → (w : IsWalking s below top old) → r ≡ Done → IsSet old new top.unit top.name.n c 0
-    → Means s (paths_of old) below top.unit w.from top.name.n c → Steps s below top old new r
+    → (w : IsWalking s below top old) → r ≡ Done → IsEntrySet old new top.unit top.name.n c 0
+    → EntryMeans s (table_paths old) below top.unit w.from top.name.n c → StepsFrom s below top old new r
 answered {s = s} {below = below} {top = top} {old = old} {new = new} c r w e i m = record {
   after = subst (λ r. After s below top new r) (sym e) (record {
     from = w.from;
@@ -86,7 +86,7 @@ answered {s = s} {below = below} {top = top} {old = old} {new = new} c r w e i m
 
 -- the walk is under way as before, with a unit more
 walking_grown : {s : RootedModel} {below : List Frame} {top : Frame} {old new : Table} {d : Met} {a n : ℕ}
-    (u : UnitPath) → IsWalking s below top old → IsGrown old new d n → d.owner ≡ Some a → Stands (paths_of old) a u
+    (u : UnitPath) → IsWalking s below top old → IsGrown old new d n → d.owner ≡ Some a → Stands (table_paths old) a u
     → IsWalking s below top new
 walking_grown {below = below} {top = top} u w g o h = let wide = grown_wide u g o h in record {
   from = w.from;
@@ -98,8 +98,8 @@ walking_grown {below = below} {top = top} u w g o h = let wide = grown_wide u g 
 
 -- or with an entry more
 walking_set : {s : RootedModel} {below : List Frame} {top : Frame} {old new : Table} {a x k : ℕ} {c : Known}
-    (u : UnitPath) → IsWalking s below top old → IsSet old new a x c k → Stands (paths_of old) a u
-    → Means s (paths_of old) (below ++ top ∷ []) a u x c → IsWalking s below top new
+    (u : UnitPath) → IsWalking s below top old → IsEntrySet old new a x c k → Stands (table_paths old) a u
+    → EntryMeans s (table_paths old) (below ++ top ∷ []) a u x c → IsWalking s below top new
 walking_set {below = below} {top = top} u w i h m = let wide = set_wide i in record {
   from = w.from;
   here = w.here;
@@ -164,28 +164,28 @@ starts_some paths n None h = absurd h
 starts_some paths n (Some v) h = (v, refl, h)
 
 -- nothing is kept of how far the path leads, and all is as before
-pub kept_nothing : {s : RootedModel} {below : List Frame} {top : Frame} {t : Table} → IsAnswered s below top t
-    → IsKept s below top t t
+pub kept_nothing : {s : RootedModel} {below : List Frame} {top : Frame} {t : Table} → IsTopAnswered s below top t
+    → IsPathKept s below top t t
 kept_nothing {t = t} a = record { answered = a; extends = extends_none t }
 
 -- it is kept how far the path leads
 pub kept_end : {s : RootedModel} {below : List Frame} {top : Frame} {old new : Table} {u v : UnitPath} (d : Met) (a : ℕ)
-    (k : Reach) → IsFrame s (paths_of old) top u v → IsAnswered s below top old → top.start ≡ Some a
+    (k : Reach) → IsFrame s (table_paths old) top u v → IsTopAnswered s below top old → top.start ≡ Some a
     → Some d ≡ slice_get old.units.items top.unit → k.unit ≡ top.at → k.rest ≡ length top.rest.now
-    → KeepsEnd old new d.body.n top.name.n a k → IsKept s below top old new
+    → KeepsEnd old new d.body.n top.name.n a k → IsPathKept s below top old new
 kept_end {s = s} {below = below} {top = top} {old = old} {u = u} {v = v} d a k f w g e at to_go i =
     let q = f.reached in
     let m = met_there s below old w.table top.unit u d f.unit e in
-    let first = starts_some (paths_of old) a (start_of q.path.start u) (f.start q.path a g q.is) in
-    let is : IsStatement q.path top.is_clone (kind_in s (body_of s u) top.name.n) = q.is in
-    let h : PathLeads s (paths_of old) d.body.n top.name.n a k = record {
+    let first = starts_some (table_paths old) a (start_of q.path.start u) (f.start q.path a g q.is) in
+    let is : IsStatement q.path top.is_clone (member_kind_in s (body_of s u) top.name.n) = q.is in
+    let h : PathLeads s (table_paths old) d.body.n top.name.n a k = record {
       path = q.path;
       is_clone = top.is_clone;
-      is = subst (λ b. IsStatement q.path top.is_clone (kind_in s b top.name.n)) m.body is;
+      is = subst (λ b. IsStatement q.path top.is_clone (member_kind_in s b top.name.n)) m.body is;
       first = first.0;
       last = v;
       starts = first.2;
-      stands = subst (λ n. Stands (paths_of old) n v) (sym at) f.at;
+      stands = subst (λ n. Stands (table_paths old) n v) (sym at) f.at;
       before = q.before;
       rest = numbers top.rest.now;
       names = q.names;
@@ -206,7 +206,7 @@ kept_end {s = s} {below = below} {top = top} {old = old} {u = u} {v = v} d a k f
 
 -- an answer leaves no more to look at, and a name that leads to a unit leaves fewer names
 pub answer_weighs : (top : Frame) (old new : Table) (a x : ℕ) (c : Known) (r : Step) → r ≡ Done
-    → IsSet old new a x c 0 → Weighs top old new r
+    → IsEntrySet old new a x c 0 → Weighs top old new r
 answer_weighs top old new a x c r e s = rw e (omega (arith, same))
   where
     count : new.count ≡ old.count
@@ -220,7 +220,7 @@ pub unit_weighs : (n : ℕ) (names rest : List NameId) (x : NameId) → names �
 unit_weighs n names rest x e = let k = ap length e in omega (arith, k)
 
 pub arrived_alias : (top : Frame) (old new : Table) (r : Step) → top.is_clone ≡ false → top.rest.now ≡ [] → r ≡ Done
-    → IsSet old new top.unit top.name.n (ToUnit top.at) 0 → IsStep top old new r
+    → IsEntrySet old new top.unit top.name.n (ToUnit top.at) 0 → IsWalkStep top old new r
 arrived_alias top old new r a over e i s below w =
     let q = reached_end a (none_to_go top.rest.now over) w.frame.reached in
     answered (ToUnit top.at) r w e i (record
@@ -228,13 +228,13 @@ arrived_alias top old new r a over e i s below w =
 
 -- the unit that the top frame's walk has come to
 pub walking_met : (top : Frame) (t : Table) (d : Met) → Some d ≡ slice_get t.units.items top.at
-    → (s : RootedModel) (below : List Frame) (w : IsWalking s below top t) → IsMet s (paths_of t) w.here d
+    → (s : RootedModel) (below : List Frame) (w : IsWalking s below top t) → IsUnitMet s (table_paths t) w.here d
 walking_met top t d e s below w = met_there s (below ++ top ∷ []) t w.table top.at w.here d w.frame.at e
 
 pub arrived_above : (top : Frame) (old new : Table) (r : Step) (d : Met) → top.is_clone ≡ true → top.rest.now ≡ []
-    → r ≡ Done → IsSet old new top.unit top.name.n Loops 0 → Some d ≡ slice_get old.units.items top.at
-    → ((s : RootedModel) (frames : List Frame) (u : UnitPath) → IsTable s frames old → Stands (paths_of old) top.unit u
-    → true ≡ has_number (bodies_of s u) d.body.n) → IsStep top old new r
+    → r ≡ Done → IsEntrySet old new top.unit top.name.n Loops 0 → Some d ≡ slice_get old.units.items top.at
+    → ((s : RootedModel) (frames : List Frame) (u : UnitPath) → IsWalkTable s frames old → Stands (table_paths old) top.unit u
+    → true ≡ has_number (bodies_of s u) d.body.n) → IsWalkStep top old new r
 arrived_above top old new r d a over e i f h s below w =
     let q = walking_met top old d f s below w in
     let z = h s (below ++ top ∷ []) w.from w.table w.frame.unit in
@@ -258,9 +258,9 @@ level_same x a b o p e f = cc
 pub arrived_clone : (top : Frame) (old mid new : Table) (r : Step) (d c : Met) (n : ℕ) → top.is_clone ≡ true
     → top.rest.now ≡ [] → r ≡ Done
     → c ≡ record { owner = Some top.unit; name = top.name; body = d.body; set_at = d.set_at } → IsGrown old mid c n
-    → IsSet mid new top.unit top.name.n (ToUnit n) 0 → Some d ≡ slice_get old.units.items top.at
-    → ((s : RootedModel) (frames : List Frame) (u : UnitPath) → IsTable s frames old → Stands (paths_of old) top.unit u
-    → false ≡ has_number (bodies_of s u) d.body.n) → IsStep top old new r
+    → IsEntrySet mid new top.unit top.name.n (ToUnit n) 0 → Some d ≡ slice_get old.units.items top.at
+    → ((s : RootedModel) (frames : List Frame) (u : UnitPath) → IsWalkTable s frames old → Stands (table_paths old) top.unit u
+    → false ≡ has_number (bodies_of s u) d.body.n) → IsWalkStep top old new r
 unfolding walking_grown
 arrived_clone top old mid new r d c n a over e is g i f h s below w =
     let q = reached_end a (none_to_go top.rest.now over) w.frame.reached in
@@ -270,13 +270,13 @@ arrived_clone top old mid new r d c n a over e is g i f h s below w =
     let named = clone_ends q.is (whole q)
     (subst (λ b. has_number (bodies_of s w.from) b ≡ false) (sym y.body) (sym z)) in
     let lv = level_same top.name.n (body_of s w.here) d.body.n (set_at_of w.here) (option_map site_of d.set_at) y.body
-    (set_at_same (set_at_of w.here) d.set_at y.set_at) ∙ ap level_of (sym is) in
+    (set_at_same (set_at_of w.here) d.set_at y.set_at) ∙ ap unit_level (sym is) in
     let ends = subst (λ l. NameEnds s (suc (q.height + 0)) w.from top.name.n (kind_at s w.from top.name.n)
     (Some (l ∷ w.from))) lv named in
     let v = walking_grown w.from w g o w.frame.unit in
     let k = answered (ToUnit n) r v e i
     (record {
-      path = level_of c ∷ w.from;
+      path = unit_level c ∷ w.from;
       stands = grown_stands w.from g o w.frame.unit;
       height = suc (q.height + 0);
       ends = ends;
@@ -284,7 +284,7 @@ arrived_clone top old mid new r d c n a over e is g i f h s below w =
     record { after = k.after; extends = extends_both (grown_extends w.from g o w.frame.unit) k.extends }
 
 pub clone_weighs : (top : Frame) {old mid new : Table} {d : Met} {n a x : ℕ} {c : Known} (r : Step) → r ≡ Done
-    → IsGrown old mid d n → IsSet mid new a x c 0 → Weighs top old new r
+    → IsGrown old mid d n → IsEntrySet mid new a x c 0 → Weighs top old new r
 clone_weighs top {old = old} {mid = mid} {new = new} r e g i = subst (λ r. Weighs top old new r) (sym e) (let h = set_weight i in let k : weight mid ≡ weight old = ap (λ n. (16777216 - n) * 2 ^ 65) g.count in omega (arith, h, k))
 
 pub none_some : {A : Type 0} (x : A) → None ≡ Some x → ⊥
@@ -316,14 +316,14 @@ nothing_waits {s = s} {u = u} {n = n} w d =
 -- the next name is nothing
 pub next_nothing : (s : RootedModel) (below : List Frame) (top : Frame) (old new : Table) (y : ℕ) (more : List ℕ)
     (r : Step) → (w : IsWalking s below top old) → numbers top.rest.now ≡ y ∷ more → r ≡ Done
-    → IsSet old new top.unit top.name.n Nothing 0 → EndsNowhere s w.here y → Steps s below top old new r
+    → IsEntrySet old new top.unit top.name.n Nothing 0 → EndsNowhere s w.here y → StepsFrom s below top old new r
 next_nothing s below top old new y more r w e d i n =
     answered Nothing r w d i (nothing_waits (waits_of more w.frame e) n.ends)
 
 -- the next name is a statement that loops
 pub next_loops : (s : RootedModel) (below : List Frame) (top : Frame) (old new : Table) (y : ℕ) (more : List ℕ)
     (r : Step) → (w : IsWalking s below top old) → numbers top.rest.now ≡ y ∷ more → r ≡ Done
-    → IsSet old new top.unit top.name.n Loops 0 → NeverEnds s w.here y → Steps s below top old new r
+    → IsEntrySet old new top.unit top.name.n Loops 0 → NeverEnds s w.here y → StepsFrom s below top old new r
 next_loops s below top old new y more r w e d i n = answered Loops r w d i (waits_doomed (waits_of more w.frame e) n)
 
 -- a statement that waits, and leads to the end of the chain
@@ -353,7 +353,7 @@ chain_leads {s = s} {paths = paths} {v = v} {w = w} {y = y} a z
 -- the next name is a statement that is being followed
 pub next_following : (s : RootedModel) (below : List Frame) (top : Frame) (old new : Table) (y : ℕ) (more : List ℕ)
     (r : Step) → (w : IsWalking s below top old) → numbers top.rest.now ≡ y ∷ more → r ≡ Done
-    → IsSet old new top.unit top.name.n Loops 0 → HasFrame (below ++ top ∷ []) top.at y → Steps s below top old new r
+    → IsEntrySet old new top.unit top.name.n Loops 0 → HasFrame (below ++ top ∷ []) top.at y → StepsFrom s below top old new r
 next_following s below top old new y more r w e d i n =
     let l = chain_leads top.at y (above refl w.frame e w.chain) n w.frame.at in
     next_loops s below top old new y more r w e d i (cycle_doomed l.first l.rest)
@@ -362,26 +362,26 @@ next_following s below top old new y more r w e d i n =
 pub next_unit : (s : RootedModel) (below : List Frame) (top next : Frame) (t : Table) (y : ℕ) (more : List ℕ)
     → (w : IsWalking s below top t) → numbers top.rest.now ≡ y ∷ more
     → next.unit ≡ top.unit → next.name.n ≡ top.name.n → next.is_clone ≡ top.is_clone → numbers next.rest.now ≡ more
-    → next.start ≡ top.start → EndsAt s (paths_of t) w.here y next.at → Steps s below top t t (On next)
+    → next.start ≡ top.start → EndsAt s (table_paths t) w.here y next.at → StepsFrom s below top t t (On next)
 next_unit s below top next t y more w e a b c d o i = record {
   after = record {
     from = w.from;
     here = i.path;
     frame = record {
-      unit = subst (λ n. Stands (paths_of t) n w.from) (sym a) w.frame.unit;
+      unit = subst (λ n. Stands (table_paths t) n w.from) (sym a) w.frame.unit;
       at = i.stands;
       reached = moved;
       start = λ p n g is. w.frame.start p n (sym o ∙ g)
           (subst (λ x. IsStatement p top.is_clone (kind_at s w.from x)) b
           (subst (λ z. IsStatement p z (kind_at s w.from next.name.n)) c is));
     };
-    chain = subst (λ x. Chain s (paths_of t) below w.from x) (sym b) w.chain;
+    chain = subst (λ x. Chain s (table_paths t) below w.from x) (sym b) w.chain;
     table = record {
       main = w.table.main;
       units = w.table.units;
       within = w.table.within;
       ends = w.table.ends;
-      known = λ n x c u p q. means_frames s (paths_of t) u n x (below ++ top ∷ []) (below ++ next ∷ []) c
+      known = λ n x c u p q. means_frames s (table_paths t) u n x (below ++ top ∷ []) (below ++ next ∷ []) c
           (frame_kept below top next a b n x) (w.table.known n x c u p q);
     };
   };
@@ -446,14 +446,14 @@ looked_alias (l.is (l.alias {p = q} e)) = subst (λ z. IsStatement z false (Some
 pub entered_level : (a : ℕ) (name : NameId) (body : BodyId) (at : Option (BodyId × ℕ)) (d : Met)
     → d ≡ record { owner = Some a; name = name; body = body; set_at = at }
     → (d.owner ≡ Some a) × (d.name.n ≡ name.n)
-    × (◌≡◌ {A = UnitLevel} (level_of d) (record { name = name.n; body = body.n; set_at = option_map site_of at }))
-entered_level a name body at d e = (ap (λ d. d.owner) e, ap (λ d. d.name.n) e, ap level_of e)
+    × (◌≡◌ {A = UnitLevel} (unit_level d) (record { name = name.n; body = body.n; set_at = option_map site_of at }))
+entered_level a name body at d e = (ap (λ d. d.owner) e, ap (λ d. d.name.n) e, ap unit_level e)
 
 -- the next name is a unit that was not met yet
 pub next_entered : (s : RootedModel) (below : List Frame) (top : Frame) (old new : Table) (d : Met) (n : ℕ)
     (more : List ℕ) → (w : IsWalking s below top old) → d.owner ≡ Some top.at → IsEntered old new top.at d n
-    → NameEnds s 0 w.here d.name.n (kind_at s w.here d.name.n) (Some (level_of d ∷ w.here))
-    → Steps s below top old new (On top)
+    → NameEnds s 0 w.here d.name.n (kind_at s w.here d.name.n) (Some (unit_level d ∷ w.here))
+    → StepsFrom s below top old new (On top)
 unfolding walking_grown
 next_entered s below top old new d n more w o i e =
     let g = walking_grown w.here w i.grown o w.frame.at in
@@ -461,7 +461,7 @@ next_entered s below top old new d n more w o i e =
     record {
       after = walking_set w.here g i.set (wide.keeps top.at w.here w.frame.at)
           (record {
-            path = level_of d ∷ w.here;
+            path = unit_level d ∷ w.here;
             stands = grown_stands w.here i.grown o w.frame.at;
             height = 0;
             ends = e;
@@ -476,12 +476,12 @@ module _ (forms : Forms) (top : Frame) (old : Table) (d : Met) (y : ℕ)
       → IsFormsFor s forms → (w : IsWalking s below top old) → IsLookedUp o (kind_at s w.here y)
   looked o g s below f w =
       let m = walking_met top old d e s below w in
-      let h : IsLookedUp (form_at forms d.body.n y) (kind_in s d.body.n y) = looked_up s forms f d.body.n y in
+      let h : IsLookedUp (form_at forms d.body.n y) (member_kind_in s d.body.n y) = looked_up s forms f d.body.n y in
       subst (λ o. IsLookedUp o (kind_at s w.here y)) (sym g)
-      (subst (λ b. IsLookedUp (form_at forms d.body.n y) (kind_in s b y)) (sym m.body) h)
+      (subst (λ b. IsLookedUp (form_at forms d.body.n y) (member_kind_in s b y)) (sym m.body) h)
 
   pub look_absent : (new : Table) (r : Step) → None ≡ form_at forms d.body.n y → r ≡ Done
-      → IsSet old new top.unit top.name.n Nothing 0 → IsNameStep forms top y old new r
+      → IsEntrySet old new top.unit top.name.n Nothing 0 → IsNameStep forms top y old new r
   look_absent new r g q i s below more f w k =
       next_nothing s below top old new y more r w k q i
       (record { height = 0; ends = looked_none (kind_at s w.here y) (looked None g s below f w) })
@@ -493,11 +493,11 @@ module _ (forms : Forms) (top : Frame) (old : Table) (d : Met) (y : ℕ)
   look_inner new c n name id at z g q i s below more f w k =
       let v = entered_level top.at name id at c q in
       let h = looked_inner {s = s} {u = w.here} {x = y} (looked (Some (form.Inner id at)) g s below f w) in
-      let lv : record { name = y; body = id.n; set_at = option_map site_of at } ≡ level_of c =
+      let lv : record { name = y; body = id.n; set_at = option_map site_of at } ≡ unit_level c =
       ap (λ x. record { name = x; body = id.n; set_at = option_map site_of at }) (sym z) ∙ sym v.2 in
       let P : ℕ → UnitLevel → Type 0 = λ x l. NameEnds s 0 w.here x (kind_at s w.here x) (Some (l ∷ w.here)) in
       next_entered s below top old new c n more w v.0 i
-      (subst (λ x. P x (level_of c)) (sym z ∙ sym v.1) (subst (λ l. P y l) lv h))
+      (subst (λ x. P x (unit_level c)) (sym z ∙ sym v.1) (subst (λ l. P y l) lv h))
 
   pub look_clone : (new : Table) (r : Step) (p : Bor Path) → Some (form.Clone p) ≡ form_at forms d.body.n y
       → IsStatementStep top y true p.now old new r → IsNameStep forms top y old new r
@@ -510,11 +510,11 @@ module _ (forms : Forms) (top : Frame) (old : Table) (d : Met) (y : ℕ)
       i s below more w k (looked_alias (looked (Some (form.Alias p)) g s below f w))
 
 -- the statement's path starts nowhere
-pub follow_nowhere : (top : Frame) (old new : Table) (y : ℕ) (z : Bool) (p : Path) → IsSet old new top.at y Nothing 1
-    → ((s : RootedModel) (frames : List Frame) (u : UnitPath) → IsTable s frames old → Stands (paths_of old) top.at u
-    → StandsIf (paths_of old) None (start_of p.start u)) → IsStatementStep top y z p old new (On top)
+pub follow_nowhere : (top : Frame) (old new : Table) (y : ℕ) (z : Bool) (p : Path) → IsEntrySet old new top.at y Nothing 1
+    → ((s : RootedModel) (frames : List Frame) (u : UnitPath) → IsWalkTable s frames old → Stands (table_paths old) top.at u
+    → StandsIf (table_paths old) None (start_of p.start u)) → IsStatementStep top y z p old new (On top)
 follow_nowhere top old new y z p i f s below more w k j =
-    let e = starts_none (paths_of old) (start_of p.start w.here) (f s (below ++ top ∷ []) w.here w.table w.frame.at) in
+    let e = starts_none (table_paths old) (start_of p.start w.here) (f s (below ++ top ∷ []) w.here w.table w.frame.at) in
     record {
       after = walking_set w.here w i w.frame.at
           (record {
@@ -531,10 +531,10 @@ one_path clone clone = refl
 one_path alias alias = refl
 
 -- where the walk of a statement begins
-module _ (s : RootedModel) (frames : List Frame) (t : Table) (k : IsTable s frames t) (f : Frame) (u : UnitPath)
-    (p : Path) (i : IsAtStart s (paths_of t) f u p) where
-  from_start : (v : UnitPath) × (start_of p.start u ≡ Some v) × Stands (paths_of t) f.at v
-  from_start = starts_some (paths_of t) f.at (start_of p.start u) i.at
+module _ (s : RootedModel) (frames : List Frame) (t : Table) (k : IsWalkTable s frames t) (f : Frame) (u : UnitPath)
+    (p : Path) (i : IsAtStart s (table_paths t) f u p) where
+  from_start : (v : UnitPath) × (start_of p.start u ≡ Some v) × Stands (table_paths t) f.at v
+  from_start = starts_some (table_paths t) f.at (start_of p.start u) i.at
 
   first_reached : Reached s u f.name.n f.is_clone from_start.0 (numbers f.rest.now)
   first_reached = record {
@@ -546,7 +546,7 @@ module _ (s : RootedModel) (frames : List Frame) (t : Table) (k : IsTable s fram
     ran = subst (λ o. NamesEnd s 0 o [] (Some from_start.0)) (sym from_start.1) arrives;
   }
 
-  pub begins_first : (v : UnitPath) × IsFrame s (paths_of t) f u v
+  pub begins_first : (v : UnitPath) × IsFrame s (table_paths t) f u v
   begins_first = (
     from_start.0,
     record {
@@ -557,7 +557,7 @@ module _ (s : RootedModel) (frames : List Frame) (t : Table) (k : IsTable s fram
     },
   )
 
-  pub begins_long : (v : UnitPath) × IsFrame s (paths_of t) (record {
+  pub begins_long : (v : UnitPath) × IsFrame s (table_paths t) (record {
     unit = f.unit;
     name = f.name;
     is_clone = f.is_clone;
@@ -571,8 +571,8 @@ module _ (s : RootedModel) (frames : List Frame) (t : Table) (k : IsTable s fram
       unit = i.unit;
       at = from_start.2;
       reached = first_reached;
-      start = λ q a e is. subst (λ q. StandsIf (paths_of t) (Some a) (start_of q.start u)) (one_path i.is is)
-          (subst (λ a. StandsIf (paths_of t) (Some a) (start_of p.start u)) (same_Some _ _ e) i.at);
+      start = λ q a e is. subst (λ q. StandsIf (table_paths t) (Some a) (start_of q.start u)) (one_path i.is is)
+          (subst (λ a. StandsIf (table_paths t) (Some a) (start_of p.start u)) (same_Some _ _ e) i.at);
     },
   )
 
@@ -581,14 +581,14 @@ module _ (s : RootedModel) (frames : List Frame) (t : Table) (k : IsTable s fram
       → g.at ≡ n.unit
       → ((before rest : List ℕ) → numbers f.rest.now ≡ before ++ rest → length rest ≡ n.rest
       → numbers g.rest.now ≡ rest)
-      → g.start ≡ None → (v : UnitPath) × IsFrame s (paths_of t) g u v
+      → g.start ≡ None → (v : UnitPath) × IsFrame s (table_paths t) g u v
   begins_far d n g e h a b c j over fresh =
       let m = met_there s frames t k f.unit u d i.unit e in
       let q = k.ends d.body.n f.name.n f.at n (sym h) in
-      let is : IsStatement q.path q.is_clone (kind_in s (body_of s u) f.name.n) =
-      subst (λ b. IsStatement q.path q.is_clone (kind_in s b f.name.n)) (sym m.body) q.is in
+      let is : IsStatement q.path q.is_clone (member_kind_in s (body_of s u) f.name.n) =
+      subst (λ b. IsStatement q.path q.is_clone (member_kind_in s b f.name.n)) (sym m.body) q.is in
       let same : q.path ≡ p = one_path is i.is in
-      let first : q.first ≡ from_start.0 = stands_one (paths_of t) f.at q.first from_start.0 q.starts from_start.2 in
+      let first : q.first ≡ from_start.0 = stands_one (table_paths t) f.at q.first from_start.0 q.starts from_start.2 in
       let P : ℕ → Bool → List ℕ → Type 0 = λ x z xs. Reached s u x z q.last xs in
       let names : numbers p.names.items ≡ q.before ++ q.rest = ap (λ (p : Path). numbers p.names.items) (sym same) ∙ q.names in
       let to_go : numbers g.rest.now ≡ q.rest = over q.before q.rest (ap numbers i.names ∙ names) q.to_go in
@@ -602,8 +602,8 @@ module _ (s : RootedModel) (frames : List Frame) (t : Table) (k : IsTable s fram
       } in (
         q.last,
         record {
-          unit = subst (λ n. Stands (paths_of t) n u) (sym a) i.unit;
-          at = subst (λ n. Stands (paths_of t) n q.last) (sym j) q.stands;
+          unit = subst (λ n. Stands (table_paths t) n u) (sym a) i.unit;
+          at = subst (λ n. Stands (table_paths t) n q.last) (sym j) q.stands;
           reached = subst (λ x. P x g.is_clone (numbers g.rest.now)) (sym (ap (λ (x : NameId). x.n) b))
               (subst (λ z. P f.name.n z (numbers g.rest.now)) (sym c)
               (subst (λ xs. P f.name.n f.is_clone xs) (sym to_go) reached));
@@ -612,18 +612,18 @@ module _ (s : RootedModel) (frames : List Frame) (t : Table) (k : IsTable s fram
       )
 
 pub follow_into : (top first next : Frame) (old new : Table) (y : ℕ) (z : Bool) (p : Path)
-    → IsSet old new top.at y Following 1
-    → ((s : RootedModel) (frames : List Frame) (u : UnitPath) → IsTable s frames old → Stands (paths_of old) top.at u
-    → StandsIf (paths_of old) (Some first.at) (start_of p.start u))
+    → IsEntrySet old new top.at y Following 1
+    → ((s : RootedModel) (frames : List Frame) (u : UnitPath) → IsWalkTable s frames old → Stands (table_paths old) top.at u
+    → StandsIf (table_paths old) (Some first.at) (start_of p.start u))
     → first.unit ≡ top.at → first.name.n ≡ y → first.is_clone ≡ z → first.rest.now ≡ p.names.items
     → first.start ≡ None
-    → ((s : RootedModel) (frames : List Frame) (u : UnitPath) (p : Path) → IsTable s frames old
-    → IsAtStart s (paths_of old) first u p → (v : UnitPath) × IsFrame s (paths_of old) next u v)
+    → ((s : RootedModel) (frames : List Frame) (u : UnitPath) (p : Path) → IsWalkTable s frames old
+    → IsAtStart s (table_paths old) first u p → (v : UnitPath) × IsFrame s (table_paths old) next u v)
     → next.unit ≡ first.unit → next.name ≡ first.name → IsStatementStep top y z p old new (Into next)
 follow_into top first next old new y z p i f a b c d e g unit name s below more w k j =
     let P : ℕ → Bool → Type 0 = λ x z. IsStatement p z (kind_at s w.here x) in
-    let at : IsAtStart s (paths_of old) first w.here p = record {
-      unit = subst (λ n. Stands (paths_of old) n w.here) (sym a) w.frame.at;
+    let at : IsAtStart s (table_paths old) first w.here p = record {
+      unit = subst (λ n. Stands (table_paths old) n w.here) (sym a) w.frame.at;
       is = subst (λ x. P x first.is_clone) (sym b) (subst (λ z. P y z) (sym c) j);
       at = f s (below ++ top ∷ []) w.here w.table w.frame.at;
       names = d;
@@ -637,7 +637,7 @@ follow_into top first next old new y z p i f a b c d e g unit name s below more 
         from = w.here;
         here = v.0;
         frame = frame_wide wide v.1;
-        chain = subst (λ x. Chain s (paths_of new) (below ++ top ∷ []) w.here x) (sym named)
+        chain = subst (λ x. Chain s (table_paths new) (below ++ top ∷ []) w.here x) (sym named)
             (above refl (frame_wide wide w.frame) k (chain_wide wide w.chain));
         table = table_set (below ++ top ∷ []) ((below ++ top ∷ []) ++ next ∷ []) w.table i w.frame.at
             (has_last (below ++ top ∷ []) next top.at y (unit ∙ a) named)
@@ -650,22 +650,22 @@ follow_into top first next old new y z p i f a b c d e g unit name s below more 
 module _ (s : RootedModel) (below : List Frame) (top : Frame) (old : Table) (y : ℕ) (more : List ℕ)
     (w : IsWalking s below top old) (k : numbers top.rest.now ≡ y ∷ more) where
   entry_means : (c : Known) → known_at old top.at y ≡ Some c
-      → Means s (paths_of old) (below ++ top ∷ []) top.at w.here y c
+      → EntryMeans s (table_paths old) (below ++ top ∷ []) top.at w.here y c
   entry_means c e = w.table.known top.at y c w.here w.frame.at e
 
   pub step_unit : (next : Frame) → known_at old top.at y ≡ Some (ToUnit next.at) → next.unit ≡ top.unit
       → next.name.n ≡ top.name.n → next.is_clone ≡ top.is_clone → numbers next.rest.now ≡ more
-      → next.start ≡ top.start → Steps s below top old old (On next)
+      → next.start ≡ top.start → StepsFrom s below top old old (On next)
   step_unit next e a b c d o = next_unit s below top next old y more w k a b c d o (entry_means (ToUnit next.at) e)
 
   pub step_nothing : (new : Table) (r : Step) → known_at old top.at y ≡ Some Nothing → r ≡ Done
-      → IsSet old new top.unit top.name.n Nothing 0 → Steps s below top old new r
+      → IsEntrySet old new top.unit top.name.n Nothing 0 → StepsFrom s below top old new r
   step_nothing new r e d i = next_nothing s below top old new y more r w k d i (entry_means Nothing e)
 
   pub step_loops : (new : Table) (r : Step) → known_at old top.at y ≡ Some Loops → r ≡ Done
-      → IsSet old new top.unit top.name.n Loops 0 → Steps s below top old new r
+      → IsEntrySet old new top.unit top.name.n Loops 0 → StepsFrom s below top old new r
   step_loops new r e d i = next_loops s below top old new y more r w k d i (entry_means Loops e)
 
   pub step_following : (new : Table) (r : Step) → known_at old top.at y ≡ Some Following → r ≡ Done
-      → IsSet old new top.unit top.name.n Loops 0 → Steps s below top old new r
+      → IsEntrySet old new top.unit top.name.n Loops 0 → StepsFrom s below top old new r
   step_following new r e d i = next_following s below top old new y more r w k d i (entry_means Following e)

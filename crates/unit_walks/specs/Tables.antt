@@ -8,7 +8,7 @@ use Rattle.hierarchy.specs.Models.{RootedModel}
 use Rattle.hierarchy.specs.Units.{UnitPath, UnitLevel, body_of, set_at_of, kind_at, numbers}
 use Rattle.hierarchy.specs.Tie.{IsNameOfUnit, IsSetAt}
 use Rattle.unit_walks.specs.Ends.{NameEnds, NamesEnd, NeverEnds, IsStatement}
-use Rattle.unit_walks.specs.Forms.{same_pair, kind_in}
+use Rattle.unit_walks.specs.Forms.{same_pair, member_kind_in}
 use Rattle.unit_walks.specs.declared.tables.Table.{Table}
 use Rattle.unit_walks.specs.declared.tables.Met.{Met}
 use Rattle.unit_walks.specs.declared.tables.Frame.{Frame}
@@ -28,8 +28,8 @@ abbrev pub end_at : Table → ℕ → ℕ → ℕ → Option Reach
 end_at t b x a = get same_triple t.ends (b, x, a)
 
 -- the level of a unit
-abbrev pub level_of : Met → UnitLevel
-level_of d = record { name = d.name.n; body = d.body.n; set_at = option_map site_of d.set_at }
+abbrev pub unit_level : Met → UnitLevel
+unit_level d = record { name = d.name.n; body = d.body.n; set_at = option_map site_of d.set_at }
 
 -- The units of a table are a function of it: that of an entry is its level on the unit of its owner's number.
 
@@ -43,11 +43,11 @@ path_met paths (Some n) l = path_below (slice_get paths n) l
 
 abbrev pub paths_from : List UnitPath → List Met → List UnitPath
 paths_from paths [] = paths
-paths_from paths (d ∷ ds) = paths_from (paths ++ path_met paths d.owner (level_of d) ∷ []) ds
+paths_from paths (d ∷ ds) = paths_from (paths ++ path_met paths d.owner (unit_level d) ∷ []) ds
 
 -- the units of a table, by their numbers
-abbrev pub paths_of : Table → List UnitPath
-paths_of t = paths_from [] t.units.items
+abbrev pub table_paths : Table → List UnitPath
+table_paths t = paths_from [] t.units.items
 
 -- the number of the unit above
 abbrev pub Above : List UnitPath → UnitPath → Option ℕ → Type 0
@@ -79,17 +79,17 @@ pub record EndsNowhere (m : RootedModel) (u : UnitPath) (x : ℕ) : Type 0 where
   pub ends : NameEnds m height u x (kind_at m u x) None
 
 -- what an entry says of the name x in the unit u, which has number a
-abbrev pub Means : RootedModel → List UnitPath → List Frame → ℕ → UnitPath → ℕ → Known → Type 0
-Means m paths frames a u x (ToUnit k) = EndsAt m paths u x k
-Means m paths frames a u x Nothing = EndsNowhere m u x
-Means m paths frames a u x Loops = NeverEnds m u x
-Means m paths frames a u x Following = HasFrame frames a x
+abbrev pub EntryMeans : RootedModel → List UnitPath → List Frame → ℕ → UnitPath → ℕ → Known → Type 0
+EntryMeans m paths frames a u x (ToUnit k) = EndsAt m paths u x k
+EntryMeans m paths frames a u x Nothing = EndsNowhere m u x
+EntryMeans m paths frames a u x Loops = NeverEnds m u x
+EntryMeans m paths frames a u x Following = HasFrame frames a x
 
 -- the path of the statement x of body b leads so far from the unit of number a
 pub record PathLeads (m : RootedModel) (paths : List UnitPath) (b x a : ℕ) (k : Reach) : Type 0 where
   pub path : Path
   pub is_clone : Bool
-  pub is : IsStatement path is_clone (kind_in m b x)
+  pub is : IsStatement path is_clone (member_kind_in m b x)
   pub first : UnitPath
   pub last : UnitPath
   pub starts : Stands paths a first
@@ -102,24 +102,24 @@ pub record PathLeads (m : RootedModel) (paths : List UnitPath) (b x a : ℕ) (k 
   pub ends : NamesEnd m height (Some first) before (Some last)
 
 -- the entry is that of the unit
-pub record IsMet (m : RootedModel) (paths : List UnitPath) (u : UnitPath) (d : Met) : Type 0 where
+pub record IsUnitMet (m : RootedModel) (paths : List UnitPath) (u : UnitPath) (d : Met) : Type 0 where
   pub name : IsNameOfUnit u d.name
   pub body : body_of m u ≡ d.body.n
   pub set_at : IsSetAt (set_at_of u) d.set_at
   pub owner : Above paths u d.owner
 
 -- the table is right, while the statements of these frames are being followed
-pub record IsTable (m : RootedModel) (frames : List Frame) (t : Table) : Type 0 where
-  pub main : Stands (paths_of t) 0 []
-  pub units : (n : ℕ) (d : Met) (u : UnitPath) → Stands t.units.items n d → Stands (paths_of t) n u
-      → IsMet m (paths_of t) u d
-  pub known : (a x : ℕ) (c : Known) (u : UnitPath) → Stands (paths_of t) a u → known_at t a x ≡ Some c
-      → Means m (paths_of t) frames a u x c
+pub record IsWalkTable (m : RootedModel) (frames : List Frame) (t : Table) : Type 0 where
+  pub main : Stands (table_paths t) 0 []
+  pub units : (n : ℕ) (d : Met) (u : UnitPath) → Stands t.units.items n d → Stands (table_paths t) n u
+      → IsUnitMet m (table_paths t) u d
+  pub known : (a x : ℕ) (c : Known) (u : UnitPath) → Stands (table_paths t) a u → known_at t a x ≡ Some c
+      → EntryMeans m (table_paths t) frames a u x c
   pub within : (a x : ℕ) (c : Known) → known_at t a x ≡ Some c → a < length t.units.items
-  pub ends : (b x a : ℕ) (k : Reach) → end_at t b x a ≡ Some k → PathLeads m (paths_of t) b x a k
+  pub ends : (b x a : ℕ) (k : Reach) → end_at t b x a ≡ Some k → PathLeads m (table_paths t) b x a k
 
 -- one entry is set, and k are new
-pub record IsSet (old new : Table) (a x : ℕ) (c : Known) (k : ℕ) : Type 0 where
+pub record IsEntrySet (old new : Table) (a x : ℕ) (c : Known) (k : ℕ) : Type 0 where
   pub units : new.units.items ≡ old.units.items
   pub count : new.count ≡ old.count + k
   pub here : known_at new a x ≡ Some c
@@ -153,10 +153,10 @@ pub record KeepsEnd (old new : Table) (b x a : ℕ) (k : Reach) : Type 0 where
 pub record IsEntered (old new : Table) (a : ℕ) (d : Met) (n : ℕ) : Type 0 where
   pub mid : Table
   pub grown : IsGrown old mid d n
-  pub set : IsSet mid new a d.name.n (ToUnit n) 1
+  pub set : IsEntrySet mid new a d.name.n (ToUnit n) 1
   pub room : old.count < 16777216
 
 -- what was known stays known
-pub record Extends (old new : Table) : Type 0 where
-  pub units : (n : ℕ) (u : UnitPath) → Stands (paths_of old) n u → Stands (paths_of new) n u
+pub record KeepsKnown (old new : Table) : Type 0 where
+  pub units : (n : ℕ) (u : UnitPath) → Stands (table_paths old) n u → Stands (table_paths new) n u
   pub known : (a x : ℕ) (c : Known) → known_at old a x ≡ Some c → (d : Known) × (known_at new a x ≡ Some d)

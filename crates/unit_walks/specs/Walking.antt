@@ -6,7 +6,7 @@ use Rattle.hierarchy.specs.Models.{RootedModel}
 use Rattle.hierarchy.specs.Units.{UnitPath, kind_at, start_of, numbers}
 use Rattle.unit_walks.specs.Ends.{Reached, IsStatement}
 use Rattle.unit_walks.specs.Forms.{IsFormsFor}
-use Rattle.unit_walks.specs.Tables.{paths_of, StandsIf, IsTable, Means, Extends}
+use Rattle.unit_walks.specs.Tables.{table_paths, StandsIf, IsWalkTable, EntryMeans, KeepsKnown}
 use Rattle.unit_walks.specs.declared.forms.Forms.{Forms}
 use Rattle.unit_walks.specs.declared.tables.Table.{Table}
 use Rattle.unit_walks.specs.declared.tables.Frame.{Frame}
@@ -45,21 +45,21 @@ pub data Chain (m : RootedModel) (paths : List UnitPath) : List Frame → UnitPa
 pub record IsWalking (m : RootedModel) (below : List Frame) (top : Frame) (t : Table) : Type 0 where
   pub from : UnitPath
   pub here : UnitPath
-  pub frame : IsFrame m (paths_of t) top from here
-  pub chain : Chain m (paths_of t) below from top.name.n
-  pub table : IsTable m (below ++ top ∷ []) t
+  pub frame : IsFrame m (table_paths t) top from here
+  pub chain : Chain m (table_paths t) below from top.name.n
+  pub table : IsWalkTable m (below ++ top ∷ []) t
 
 -- the top frame's statement is answered
-pub record IsAnswered (m : RootedModel) (below : List Frame) (top : Frame) (t : Table) : Type 0 where
+pub record IsTopAnswered (m : RootedModel) (below : List Frame) (top : Frame) (t : Table) : Type 0 where
   pub from : UnitPath
-  pub stands : Stands (paths_of t) top.unit from
-  pub chain : Chain m (paths_of t) below from top.name.n
-  pub table : IsTable m below t
+  pub stands : Stands (table_paths t) top.unit from
+  pub chain : Chain m (table_paths t) below from top.name.n
+  pub table : IsWalkTable m below t
 
 abbrev pub After : RootedModel → List Frame → Frame → Table → Step → Type 0
 After m below top t (On f) = IsWalking m below f t
 After m below top t (Into f) = IsWalking m (below ++ top ∷ []) f t
-After m below top t Done = IsAnswered m below top t
+After m below top t Done = IsTopAnswered m below top t
 
 -- how much there is left to look at: a step to a new name pays for the names on its path, of which there are fewer than
 -- 2 ^ 65
@@ -72,44 +72,44 @@ Weighs top old new (Into f) = weight new + length f.rest.now + 1 < weight old
 Weighs top old new Done = weight new ≤ weight old
 
 -- the step from a walk of the top frame
-pub record Steps (m : RootedModel) (below : List Frame) (top : Frame) (old new : Table) (r : Step) : Type 0 where
+pub record StepsFrom (m : RootedModel) (below : List Frame) (top : Frame) (old new : Table) (r : Step) : Type 0 where
   pub after : After m below top new r
-  pub extends : Extends old new
+  pub extends : KeepsKnown old new
 
-abbrev pub IsStep : Frame → Table → Table → Step → Type 0
-IsStep top old new r = (m : RootedModel) (below : List Frame) → IsWalking m below top old → Steps m below top old new r
+abbrev pub IsWalkStep : Frame → Table → Table → Step → Type 0
+IsWalkStep top old new r = (m : RootedModel) (below : List Frame) → IsWalking m below top old → StepsFrom m below top old new r
 
 -- the step where the name y, which comes next, is a statement with this path
 abbrev pub IsStatementStep : Frame → ℕ → Bool → Path → Table → Table → Step → Type 0
 IsStatementStep top y is_clone p old new r =
     (m : RootedModel) (below : List Frame) (more : List ℕ) (w : IsWalking m below top old)
-    → numbers top.rest.now ≡ y ∷ more → IsStatement p is_clone (kind_at m w.here y) → Steps m below top old new r
+    → numbers top.rest.now ≡ y ∷ more → IsStatement p is_clone (kind_at m w.here y) → StepsFrom m below top old new r
 
 -- the step where the name y comes next
 abbrev pub IsNameStep : Forms → Frame → ℕ → Table → Table → Step → Type 0
 IsNameStep forms top y old new r = (m : RootedModel) (below : List Frame) (more : List ℕ) → IsFormsFor m forms
     → IsWalking m below top old
-    → numbers top.rest.now ≡ y ∷ more → Steps m below top old new r
+    → numbers top.rest.now ≡ y ∷ more → StepsFrom m below top old new r
 
 -- the top frame's statement is answered as before, and it may be kept how far its path leads
-pub record IsKept (m : RootedModel) (below : List Frame) (top : Frame) (old new : Table) : Type 0 where
-  pub answered : IsAnswered m below top new
-  pub extends : Extends old new
+pub record IsPathKept (m : RootedModel) (below : List Frame) (top : Frame) (old new : Table) : Type 0 where
+  pub answered : IsTopAnswered m below top new
+  pub extends : KeepsKnown old new
 
 -- no walk is under way, and what was known stays known
 pub record IsRun (m : RootedModel) (old new : Table) : Type 0 where
-  pub table : IsTable m [] new
-  pub extends : Extends old new
+  pub table : IsWalkTable m [] new
+  pub extends : KeepsKnown old new
 
 -- the answer for the name x in the unit with number a
-pub record IsKnown (m : RootedModel) (old new : Table) (a x : ℕ) (c : Known) : Type 0 where
-  pub table : IsTable m [] new
-  pub extends : Extends old new
-  pub known : (u : UnitPath) → Stands (paths_of new) a u → Means m (paths_of new) [] a u x c
+pub record IsNameKnown (m : RootedModel) (old new : Table) (a x : ℕ) (c : Known) : Type 0 where
+  pub table : IsWalkTable m [] new
+  pub extends : KeepsKnown old new
+  pub known : (u : UnitPath) → Stands (table_paths new) a u → EntryMeans m (table_paths new) [] a u x c
 
 -- the frame's walk may begin, and no walk is under way
-pub record IsReady (m : RootedModel) (f : Frame) (t : Table) : Type 0 where
+pub record IsWalkReady (m : RootedModel) (f : Frame) (t : Table) : Type 0 where
   pub from : UnitPath
   pub here : UnitPath
-  pub frame : IsFrame m (paths_of t) f from here
-  pub table : IsTable m [] t
+  pub frame : IsFrame m (table_paths t) f from here
+  pub table : IsWalkTable m [] t

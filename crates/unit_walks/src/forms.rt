@@ -1,7 +1,7 @@
 //! What the names of bodies may be units by, looked up by body and name.
 
 ghost use Rattle.std.specs.Prelude.{◌≡◌, [], unwrap_or, option_copied};
-ghost use Rattle.unit_walks.specs.Forms.{list_at, place_at, form_at};
+ghost use Rattle.unit_walks.specs.Forms.{list_at, name_place, form_at};
 
 use ar_base::{BodyId, NameId};
 use ar_syntax::Path;

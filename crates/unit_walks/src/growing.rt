@@ -8,7 +8,7 @@ ghost use Rattle.hierarchy.specs.ModelsInside.{IsKeptTable};
 ghost use Rattle.hierarchy.specs.Units.{UnitPath, body_of, kind_at};
 ghost use Rattle.hierarchy.specs.Listing.{is_inner};
 ghost use Rattle.unit_walks.specs.Forms.{IsFormsFor, IsUnitName};
-ghost use Rattle.unit_walks.specs.Tables.{paths_of, IsTable, EndsNowhere};
+ghost use Rattle.unit_walks.specs.Tables.{table_paths, IsWalkTable, EndsNowhere};
 ghost use Rattle.unit_walks.specs.UnfoldingInside.{RefusesUnits};
 ghost use Rattle.unit_walks.specs.Growing.{IsMadeBy, HasGrown, HasGrownInside, HasPassed, HasPassedInside, IsUnfolded};
 ghost use Rattle.unit_walks.specs.declared.growing.Node.{Node as NodeOf};
@@ -42,6 +42,37 @@ pub struct Unfolded<'a> {
     pub(crate) table: Table,
 }
 
+/// The units of the main block of a table that keeps the rules L1 to L5, depth first: blocks,
+/// instances and clones, in member order. An error is the limit of depth or of units that the first
+/// units pass, the first of them that does deciding, or want of memory.
+pub fn units(alloc: Global, classes: &Classes) -> Result<Unfolded<'_>, RuleFault>
+    ensures ok { (m : RootedModel) → IsKeptTable m classes.now
+        → IfOk result (λ r. (units : List UnitPath) × IsUnfolded m units r) }
+    ensures limit { (m : RootedModel) → IsKeptTable m classes.now → IfErr result (RefusesUnits m) }
+    ensures few { IfOk result (λ r. (length r.outlines.items ≤ 16384)
+        × (length r.nodes.items ≤ 16384)) }
+{
+    let forms = forms_of(alloc, classes)?;
+    let mut table = start_table(alloc, classes.main)?;
+    let mut nodes = Vec::new(alloc);
+    grow_unit(
+        alloc,
+        &forms,
+        &mut table,
+        &mut nodes,
+        None,
+        0,
+        Count::Depth.limit(),
+    )?;
+    let outlines = outlines_of(alloc, &nodes)?;
+    Ok(Unfolded {
+        outlines,
+        nodes,
+        forms,
+        table,
+    })
+}
+
 // The unit that a block, an instance or a clone makes in the unit, if it makes one.
 fn inner_unit(
     alloc: Global,
@@ -51,7 +82,7 @@ fn inner_unit(
     name: NameId,
 ) -> Result<Option<u32>, Memory>
     ensures { (m : RootedModel) (u : UnitPath) (g : NamedMember) → IsFormsFor m forms.now
-        → IsTable m [] table.old → Stands (paths_of table.old) unit u → g.name ≡ name.n
+        → IsWalkTable m [] table.old → Stands (table_paths table.old) unit u → g.name ≡ name.n
         → kind_at m u g.name ≡ Some g.kind → is_inner g.kind ≡ true
         → IfOk result (IsMadeBy m table.old table.new u g) }
 {
@@ -72,7 +103,7 @@ fn made(
     named: &UnitName,
 ) -> Result<Option<u32>, Memory>
     ensures { (m : RootedModel) (u : UnitPath) (g : NamedMember) → IsFormsFor m forms.now
-        → IsTable m [] table.old → Stands (paths_of table.old) unit u → IsUnitName named.now g
+        → IsWalkTable m [] table.old → Stands (table_paths table.old) unit u → IsUnitName named.now g
         → kind_at m u g.name ≡ Some g.kind → IfOk result (IsMadeBy m table.old table.new u g) }
 {
     match named.form {
@@ -91,7 +122,7 @@ fn made(
 // may stand in far more units than a tree has nodes.
 fn is_lost(forms: &Forms, table: &Table, unit: u32, path: &Path) -> bool
     ensures { result ≡ true → (m : RootedModel) (u : UnitPath) (x : ℕ) → IsFormsFor m forms.now
-        → IsTable m [] table.now → Stands (paths_of table.now) unit u
+        → IsWalkTable m [] table.now → Stands (table_paths table.now) unit u
         → kind_at m u x ≡ Some (Clone path.now) → EndsNowhere m u x }
 {
     let Some(start) = table.start(path.start, unit) else {
@@ -129,11 +160,11 @@ fn grow_unit(
 ) -> Result<(), RuleFault>
     requires { length nodes.old.items ≤ 16384 }
     ensures small { OnOk result (length nodes.new.items ≤ 16384) }
-    ensures ok { (m : RootedModel) (u : UnitPath) → IsFormsFor m forms.now → IsTable m [] table.old
-        → Stands (paths_of table.old) unit u → length u + room ≡ 64
+    ensures ok { (m : RootedModel) (u : UnitPath) → IsFormsFor m forms.now → IsWalkTable m [] table.old
+        → Stands (table_paths table.old) unit u → length u + room ≡ 64
         → OnOk result (HasGrown m u owner table.old table.new nodes.old.items nodes.new.items) }
     ensures limit { (m : RootedModel) (u : UnitPath) → IsFormsFor m forms.now
-        → IsTable m [] table.old → Stands (paths_of table.old) unit u → length u + room ≡ 64
+        → IsWalkTable m [] table.old → Stands (table_paths table.old) unit u → length u + room ≡ 64
         → IfErr result (HasPassed m u owner nodes.old.items) }
 {
     if room == 0 {
@@ -178,13 +209,13 @@ fn grow_insides(
 ) -> Result<(), RuleFault>
     requires { length nodes.old.items ≤ 16384 }
     ensures small { OnOk result (length nodes.new.items ≤ 16384) }
-    ensures ok { (m : RootedModel) (u : UnitPath) → IsFormsFor m forms.now → IsTable m [] table.old
-        → Stands (paths_of table.old) node.unit u → node.outline.body.n ≡ body_of m u
+    ensures ok { (m : RootedModel) (u : UnitPath) → IsFormsFor m forms.now → IsWalkTable m [] table.old
+        → Stands (table_paths table.old) node.unit u → node.outline.body.n ≡ body_of m u
         → length u + 1 + room ≡ 64
         → OnOk result
         (HasGrownInside m u at.n table.old table.new nodes.old.items nodes.new.items) }
     ensures limit { (m : RootedModel) (u : UnitPath) → IsFormsFor m forms.now
-        → IsTable m [] table.old → Stands (paths_of table.old) node.unit u
+        → IsWalkTable m [] table.old → Stands (table_paths table.old) node.unit u
         → node.outline.body.n ≡ body_of m u → length u + 1 + room ≡ 64
         → IfErr result (HasPassedInside m u at.n nodes.old.items) }
 {
@@ -209,35 +240,4 @@ fn outlines_of(alloc: Global, nodes: &[Node]) -> Result<Vec<Outline>, Memory>
         outlines.push(node.outline)?;
     }
     Ok(outlines)
-}
-
-/// The units of the main block of a table that keeps the rules L1 to L5, depth first: blocks,
-/// instances and clones, in member order. An error is the limit of depth or of units that the first
-/// units pass, the first of them that does deciding, or want of memory.
-pub fn units(alloc: Global, classes: &Classes) -> Result<Unfolded<'_>, RuleFault>
-    ensures ok { (m : RootedModel) → IsKeptTable m classes.now
-        → IfOk result (λ r. (units : List UnitPath) × IsUnfolded m units r) }
-    ensures limit { (m : RootedModel) → IsKeptTable m classes.now → IfErr result (RefusesUnits m) }
-    ensures few { IfOk result (λ r. (length r.outlines.items ≤ 16384)
-        × (length r.nodes.items ≤ 16384)) }
-{
-    let forms = forms_of(alloc, classes)?;
-    let mut table = start_table(alloc, classes.main)?;
-    let mut nodes = Vec::new(alloc);
-    grow_unit(
-        alloc,
-        &forms,
-        &mut table,
-        &mut nodes,
-        None,
-        0,
-        Count::Depth.limit(),
-    )?;
-    let outlines = outlines_of(alloc, &nodes)?;
-    Ok(Unfolded {
-        outlines,
-        nodes,
-        forms,
-        table,
-    })
 }

@@ -10,7 +10,7 @@ ghost use Rattle.class_table.specs.TablesInside.{IsBodyOf, IsNamedType, site_of}
 ghost use Rattle.hierarchy.specs.Models.{RootedModel};
 ghost use Rattle.hierarchy.specs.ModelsInside.{IsKeptTable, sites_kept};
 ghost use Rattle.unit_walks.specs.Classes.{AreClasses, class_by, instance_in};
-ghost use Rattle.unit_walks.specs.Forms.{IsFormsFor, IsUnitName, IsUnitList, AddsNames, AreIndexed, only_units, instances};
+ghost use Rattle.unit_walks.specs.Forms.{IsFormsFor, IsUnitName, IsUnitList, AddsUnitNames, AreIndexed, only_units, instances};
 ghost use Rattle.unit_walks.specs.declared.forms.UnitName.{UnitName as Named};
 
 use crate::forms::{Forms, UnitForm, UnitName};
@@ -28,6 +28,16 @@ type ClassBodies = HashMap<u32, Option<BodyId>>;
 
 /// The places of names in lists, by body and name.
 type Places = HashMap<(usize, u32), usize>;
+
+/// The names of each body that may be units. Takes memory linear in them.
+pub(crate) fn forms_of(alloc: Global, classes: &Classes) -> Result<Forms<'_>, Memory>
+    ensures { (m : RootedModel) → IsKeptTable m classes.now → IfOk result (IsFormsFor m) }
+{
+    let bodies = class_bodies(alloc, &classes.types)?;
+    let lists = list_bodies(alloc, &bodies, &classes.bodies)?;
+    let places = index(alloc, &lists)?;
+    Ok(Forms { lists, places })
+}
 
 // The body of a class.
 fn class_of(body: &TypeBody) -> Option<BodyId>
@@ -74,7 +84,7 @@ fn add_instances(
     body: BodyId,
     site: (BodyId, u32),
 ) -> Result<(), Memory>
-    ensures { OnOk result (AddsNames (instances (site_of site) body.n names.now)
+    ensures { OnOk result (AddsUnitNames (instances (site_of site) body.n names.now)
         list.old.items list.new.items) }
 {
     for (name, _) in names {
@@ -92,7 +102,7 @@ fn add_plain<'a>(
     site: (BodyId, u32),
 ) -> Result<(), Memory>
     ensures { (d : Declared) → AreClasses d classes.now
-        → OnOk result (AddsNames (only_units
+        → OnOk result (AddsUnitNames (only_units
         (names_of_form d (site_of site) (out-Member member.now)))
         list.old.items list.new.items) }
 {
@@ -136,7 +146,7 @@ fn add_member<'a>(
     site: (BodyId, u32),
 ) -> Result<(), Memory>
     ensures { (d : Declared) → AreClasses d classes.now
-        → OnOk result (AddsNames (only_units (names_of d (site_of site) (Some owned.now)))
+        → OnOk result (AddsUnitNames (only_units (names_of d (site_of site) (Some owned.now)))
         list.old.items list.new.items) }
 {
     match owned {
@@ -213,14 +223,4 @@ fn index(alloc: Global, lists: &[Vec<UnitName>]) -> Result<Places, Memory>
         index_list(&mut places, body, list)?;
     }
     Ok(places)
-}
-
-/// The names of each body that may be units. Takes memory linear in them.
-pub(crate) fn forms_of(alloc: Global, classes: &Classes) -> Result<Forms<'_>, Memory>
-    ensures { (m : RootedModel) → IsKeptTable m classes.now → IfOk result (IsFormsFor m) }
-{
-    let bodies = class_bodies(alloc, &classes.types)?;
-    let lists = list_bodies(alloc, &bodies, &classes.bodies)?;
-    let places = index(alloc, &lists)?;
-    Ok(Forms { lists, places })
 }

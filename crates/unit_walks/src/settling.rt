@@ -6,9 +6,9 @@ ghost use Rattle.hierarchy.specs.Models.{RootedModel};
 ghost use Rattle.hierarchy.specs.Units.{UnitPath, body_of};
 ghost use Rattle.hierarchy.specs.Listing.{AreUnits};
 ghost use Rattle.unit_walks.specs.Forms.{AreOnce, IsFormsFor};
-ghost use Rattle.unit_walks.specs.Tables.{paths_of, IsTable, Means};
+ghost use Rattle.unit_walks.specs.Tables.{table_paths, IsWalkTable, EntryMeans};
 ghost use Rattle.unit_walks.specs.Growing.{IsUnfolded, Tied};
-ghost use Rattle.unit_walks.specs.Settling.{IsLed, AreChildren, IsNumber, AreOutcomes, IsSettledTo, SettlesUnit};
+ghost use Rattle.unit_walks.specs.Settling.{IsLed, AreNumberedChildren, IsUnitNumber, AreOutcomes, IsSettledTo, SettlesUnit};
 
 use crate::forms::Forms;
 use crate::growing::{Node, Unfolded};
@@ -52,11 +52,22 @@ impl Walks {
     }
 }
 
+/// Walks every clone and alias of every unit, and tells what each name leads to. Takes memory linear
+/// in the names of the units. The outlines stay as they are.
+pub fn settle(alloc: Global, unfolded: &mut Unfolded) -> Result<Walks, Memory>
+    requires { length unfolded.old.nodes.items ≤ 16384 }
+    ensures walks { (m : RootedModel) (units : List UnitPath) → IsUnfolded m units unfolded.old
+        → IfOk result (AreOutcomes m units) }
+    ensures outlines { unfolded.new.outlines ≡ unfolded.old.outlines }
+{
+    settle_all(alloc, &unfolded.forms, &mut unfolded.table, &unfolded.nodes)
+}
+
 // The numbers of these units by the numbers of those above them and by their names.
 fn children_of(alloc: Global, nodes: &[Node]) -> Result<Children, Memory>
     requires { length nodes.now ≤ 16384 }
     ensures { (m : RootedModel) (units paths : List UnitPath) → AreOnce m → AreUnits m units
-        → Tied m units paths units nodes.now → IfOk result (AreChildren units) }
+        → Tied m units paths units nodes.now → IfOk result (AreNumberedChildren units) }
 {
     let mut children = HashMap::new(alloc);
     for (place, node) in nodes.iter().enumerate() {
@@ -71,8 +82,8 @@ fn children_of(alloc: Global, nodes: &[Node]) -> Result<Children, Memory>
 // The number depth first of a unit of the table, which is found from that of the unit above.
 fn id_of(table: &Table, children: &Children, number: u32) -> Option<UnitId>
     ensures { (m : RootedModel) (units : List UnitPath) (v : UnitPath) → AreOnce m
-        → AreUnits m units → IsTable m [] table.now → AreChildren units children.now
-        → Stands (paths_of table.now) number v → IsOneOf units v → IsNumber units v result }
+        → AreUnits m units → IsWalkTable m [] table.now → AreNumberedChildren units children.now
+        → Stands (table_paths table.now) number v → IsOneOf units v → IsUnitNumber units v result }
 {
     let met = table.unit(number)?;
     let Some(owner) = met.owner else {
@@ -88,8 +99,8 @@ fn id_of(table: &Table, children: &Children, number: u32) -> Option<UnitId>
 // What is known of a name, by the numbers of units depth first.
 fn led_by(table: &Table, children: &Children, known: Known) -> Led
     ensures { (m : RootedModel) (units : List UnitPath) (a x : ℕ) (u : UnitPath) → AreOnce m
-        → AreUnits m units → IsTable m [] table.now → AreChildren units children.now
-        → IsOneOf units u → Means m (paths_of table.now) [] a u x known → IsLed m units u x result }
+        → AreUnits m units → IsWalkTable m [] table.now → AreNumberedChildren units children.now
+        → IsOneOf units u → EntryMeans m (table_paths table.now) [] a u x known → IsLed m units u x result }
 {
     match known {
         Known::ToUnit(number) => match id_of(table, children, number) {
@@ -113,9 +124,9 @@ fn settle_unit(
     node: Node,
 ) -> Result<(), Memory>
     ensures { (m : RootedModel) (units : List UnitPath) (u : UnitPath) → IsFormsFor m forms.now
-        → AreUnits m units → IsTable m [] table.old → Stands (paths_of table.old) node.unit u
+        → AreUnits m units → IsWalkTable m [] table.old → Stands (table_paths table.old) node.unit u
         → node.outline.body.n ≡ body_of m u → Stands units at.n u
-        → AreChildren units children.now → IsSettledTo m units at.n 0 walks.old
+        → AreNumberedChildren units children.now → IsSettledTo m units at.n 0 walks.old
         → OnOk result (SettlesUnit m units (at.n + 1) table.old table.new walks.new) }
 {
     let Some(names) = forms.list(node.outline.body) else {
@@ -138,7 +149,7 @@ fn settle_all(
 ) -> Result<Walks, Memory>
     requires { length nodes.now ≤ 16384 }
     ensures { (m : RootedModel) (units : List UnitPath) → IsFormsFor m forms.now
-        → AreUnits m units → IsTable m [] table.old → Tied m units (paths_of table.old) units nodes.now
+        → AreUnits m units → IsWalkTable m [] table.old → Tied m units (table_paths table.old) units nodes.now
         → IfOk result (AreOutcomes m units) }
 {
     let children = children_of(alloc, nodes)?;
@@ -150,15 +161,4 @@ fn settle_all(
         settle_unit(alloc, forms, table, &children, &mut walks, at, *node)?;
     }
     Ok(walks)
-}
-
-/// Walks every clone and alias of every unit, and tells what each name leads to. Takes memory linear
-/// in the names of the units. The outlines stay as they are.
-pub fn settle(alloc: Global, unfolded: &mut Unfolded) -> Result<Walks, Memory>
-    requires { length unfolded.old.nodes.items ≤ 16384 }
-    ensures walks { (m : RootedModel) (units : List UnitPath) → IsUnfolded m units unfolded.old
-        → IfOk result (AreOutcomes m units) }
-    ensures outlines { unfolded.new.outlines ≡ unfolded.old.outlines }
-{
-    settle_all(alloc, &unfolded.forms, &mut unfolded.table, &unfolded.nodes)
 }

@@ -5,7 +5,7 @@ ghost use Rattle.hierarchy.specs.Models.{RootedModel};
 ghost use Rattle.hierarchy.specs.Units.{UnitPath, bodies_of, has_number, start_of};
 ghost use Rattle.ar_base.specs.Lists.{Stands};
 ghost use Rattle.unit_walks.specs.declared.tables.Frame.{Frame as Walk};
-ghost use Rattle.unit_walks.specs.Tables.{known_at, end_at, paths_of, StandsIf, IsTable, IsSet, IsForgotten, IsGrown};
+ghost use Rattle.unit_walks.specs.Tables.{known_at, end_at, table_paths, StandsIf, IsWalkTable, IsEntrySet, IsForgotten, IsGrown};
 
 use ar_base::{BodyId, Cap, Memory, NameId};
 use ar_syntax::PathStart;
@@ -84,7 +84,7 @@ pub(crate) struct Frame<'a> {
 
 /// A table with the main block alone.
 pub(crate) fn start_table(alloc: Global, main: BodyId) -> Result<Table, Memory>
-    ensures { (m : RootedModel) → main.n ≡ m.main → IfOk result (IsTable m []) }
+    ensures { (m : RootedModel) → main.n ≡ m.main → IfOk result (IsWalkTable m []) }
 {
     let mut units = Vec::new(alloc);
     units.push(Met {
@@ -111,7 +111,7 @@ impl Table {
 
     /// Sets what is known of a name that was looked at before.
     pub(crate) fn set(&mut self, unit: u32, name: NameId, known: Known) -> Result<(), Memory>
-        ensures { OnOk result (IsSet self.old self.new unit name.n known 0) }
+        ensures { OnOk result (IsEntrySet self.old self.new unit name.n known 0) }
     {
         self.known.insert((unit, name.n), known)?;
         Ok(())
@@ -119,7 +119,7 @@ impl Table {
 
     /// Sets what is known of a name of which nothing is kept.
     pub(crate) fn add(&mut self, unit: u32, name: NameId, known: Known) -> Result<(), Memory>
-        ensures set { OnOk result (IsSet self.old self.new unit name.n known 1) }
+        ensures set { OnOk result (IsEntrySet self.old self.new unit name.n known 1) }
         ensures room { OnOk result (self.old.count < 16777216) }
     {
         let count = self.count;
@@ -169,8 +169,8 @@ impl Table {
 
     /// Whether the unit or one above it has the body. A unit stands behind the one above it, so that the way up ends.
     pub(crate) fn has_body(&self, unit: u32, body: BodyId) -> bool
-        ensures { (m : RootedModel) (frames : List Walk) (u : UnitPath) → IsTable m frames self.now
-            → Stands (paths_of self.now) unit u → result ≡ has_number (bodies_of m u) body.n }
+        ensures { (m : RootedModel) (frames : List Walk) (u : UnitPath) → IsWalkTable m frames self.now
+            → Stands (table_paths self.now) unit u → result ≡ has_number (bodies_of m u) body.n }
     {
         let mut at = unit;
         for _level in 0..self.units.len() {
@@ -190,9 +190,9 @@ impl Table {
 
     /// Where a path begins that is read in the unit.
     pub(crate) fn start(&self, start: PathStart, unit: u32) -> Option<u32>
-        ensures { (m : RootedModel) (frames : List Walk) (u : UnitPath) → IsTable m frames self.now
-            → Stands (paths_of self.now) unit u
-            → StandsIf (paths_of self.now) result (start_of start u) }
+        ensures { (m : RootedModel) (frames : List Walk) (u : UnitPath) → IsWalkTable m frames self.now
+            → Stands (table_paths self.now) unit u
+            → StandsIf (table_paths self.now) result (start_of start u) }
     {
         match start {
             PathStart::Here => Some(unit),

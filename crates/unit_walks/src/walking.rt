@@ -9,8 +9,8 @@ ghost use Rattle.hierarchy.specs.Models.{RootedModel};
 ghost use Rattle.hierarchy.specs.Units.{UnitPath, kind_at};
 ghost use Rattle.unit_walks.specs.Ends.{IsStatement};
 ghost use Rattle.unit_walks.specs.Forms.{IsFormsFor};
-ghost use Rattle.unit_walks.specs.Tables.{paths_of, IsTable, IsSet, IsEntered};
-ghost use Rattle.unit_walks.specs.Walking.{IsFrame, IsAtStart, IsStep, IsNameStep, IsStatementStep, Steps, Weighs, IsWalking, IsAnswered, IsKept, IsRun, IsKnown};
+ghost use Rattle.unit_walks.specs.Tables.{table_paths, IsWalkTable, IsEntrySet, IsEntered};
+ghost use Rattle.unit_walks.specs.Walking.{IsFrame, IsAtStart, IsWalkStep, IsNameStep, IsStatementStep, StepsFrom, Weighs, IsWalking, IsTopAnswered, IsPathKept, IsRun, IsNameKnown};
 ghost use Rattle.unit_walks.specs.declared.tables.Frame.{Frame as Walk};
 
 use crate::forms::{Forms, UnitForm};
@@ -34,10 +34,35 @@ pub(crate) enum Step<'a> {
     Done,
 }
 
+/// What the name leads to in the unit. That it is nothing is not kept in the table: a clone or an alias that names
+/// nothing may stand in far more units than a tree has nodes, and no unit hangs from it.
+pub(crate) fn known(
+    alloc: Global,
+    forms: &Forms,
+    table: &mut Table,
+    unit: u32,
+    name: NameId,
+) -> Result<Known, Memory>
+    ensures { (m : RootedModel) (u : UnitPath) → IsFormsFor m forms.now → IsWalkTable m [] table.old
+        → Stands (table_paths table.old) unit u
+        → IfOk result (IsNameKnown m table.old table.new unit name.n) }
+{
+    match table.at(unit, name) {
+        Some(known) => Ok(known),
+        None => match discover(alloc, forms, table, unit, name)? {
+            Known::Nothing => {
+                table.forget(unit, name);
+                Ok(Known::Nothing)
+            }
+            found => Ok(found),
+        },
+    }
+}
+
 // It is known what the top statement leads to.
 fn answer<'a>(table: &mut Table, top: &Frame, known: Known) -> Result<Step<'a>, Memory>
     ensures { IfOk result (λ r. (r ≡ Step.Done)
-        × IsSet table.old table.new top.now.unit top.now.name.n known 0) }
+        × IsEntrySet table.old table.new top.now.unit top.now.name.n known 0) }
 {
     table.set(top.unit, top.name, known)?;
     Ok(Step::Done)
@@ -47,7 +72,7 @@ fn answer<'a>(table: &mut Table, top: &Frame, known: Known) -> Result<Step<'a>, 
 // clone's own unit.
 fn copy<'a>(table: &mut Table, top: &Frame) -> Result<Step<'a>, Memory>
     ensures step { top.now.rest.now ≡ [] → top.now.is_clone ≡ true
-        → IfOk result (IsStep top.now table.old table.new) }
+        → IfOk result (IsWalkStep top.now table.old table.new) }
     ensures weighs { IfOk result (Weighs top.now table.old table.new) }
 {
     let Some(target) = table.unit(top.at) else {
@@ -69,8 +94,8 @@ fn copy<'a>(table: &mut Table, top: &Frame) -> Result<Step<'a>, Memory>
 // of a path from the main block alone: one that begins at another unit would be kept for each instance of it.
 fn keep_end(table: &mut Table, top: &Frame) -> Result<(), Memory>
     ensures kept { (m : RootedModel) (below : List Walk) (u v : UnitPath)
-        → IsFrame m (paths_of table.old) top.now u v → IsAnswered m below top.now table.old
-        → OnOk result (IsKept m below top.now table.old table.new) }
+        → IsFrame m (table_paths table.old) top.now u v → IsTopAnswered m below top.now table.old
+        → OnOk result (IsPathKept m below top.now table.old table.new) }
     ensures same { OnOk result (table.new.count ≡ table.old.count) }
 {
     let Some(start) = top.start else {
@@ -103,8 +128,8 @@ fn enter(table: &mut Table, unit: u32, met: Met) -> Result<u32, Memory>
 // from where it leads to.
 fn begin<'a>(table: &Table, first: Frame<'a>) -> Frame<'a>
     ensures frame { (m : RootedModel) (frames : List Walk) (u : UnitPath) (p : Written)
-        → IsTable m frames table.now → IsAtStart m (paths_of table.now) first.entry u p
-        → (v : UnitPath) × IsFrame m (paths_of table.now) result u v }
+        → IsWalkTable m frames table.now → IsAtStart m (table_paths table.now) first.entry u p
+        → (v : UnitPath) × IsFrame m (table_paths table.now) result u v }
     ensures same { (result.unit ≡ first.entry.unit) × (result.name ≡ first.entry.name)
         × (result.is_clone ≡ first.entry.is_clone) }
     ensures short { length result.rest.now ≤ length first.entry.rest.now }
@@ -202,7 +227,7 @@ fn look<'a>(
 fn take_step<'a>(forms: &Forms<'a>, table: &mut Table, top: &Frame<'a>) -> Result<Step<'a>, Memory>
     ensures step { (m : RootedModel) (below : List Walk) → IsFormsFor m forms.now
         → IsWalking m below top.now table.old
-        → IfOk result (Steps m below top.now table.old table.new) }
+        → IfOk result (StepsFrom m below top.now table.old table.new) }
     ensures weighs { IfOk result (Weighs top.now table.old table.new) }
 {
     let Some((name, rest)) = top.rest.split_first() else {
@@ -260,9 +285,9 @@ fn statement(
     is_clone: bool,
     path: &Path,
 ) -> Result<Known, Memory>
-    ensures { (m : RootedModel) (u : UnitPath) → IsFormsFor m forms.now → IsTable m [] table.old
-        → Stands (paths_of table.old) unit u → IsStatement path.now is_clone (kind_at m u name.n)
-        → IfOk result (IsKnown m table.old table.new unit name.n) }
+    ensures { (m : RootedModel) (u : UnitPath) → IsFormsFor m forms.now → IsWalkTable m [] table.old
+        → Stands (table_paths table.old) unit u → IsStatement path.now is_clone (kind_at m u name.n)
+        → IfOk result (IsNameKnown m table.old table.new unit name.n) }
 {
     match table.start(path.start, unit) {
         None => {
@@ -297,9 +322,9 @@ fn discover(
     unit: u32,
     name: NameId,
 ) -> Result<Known, Memory>
-    ensures { (m : RootedModel) (u : UnitPath) → IsFormsFor m forms.now → IsTable m [] table.old
-        → Stands (paths_of table.old) unit u
-        → IfOk result (IsKnown m table.old table.new unit name.n) }
+    ensures { (m : RootedModel) (u : UnitPath) → IsFormsFor m forms.now → IsWalkTable m [] table.old
+        → Stands (table_paths table.old) unit u
+        → IfOk result (IsNameKnown m table.old table.new unit name.n) }
 {
     let Some(here) = table.unit(unit) else {
         return Ok(Known::Nothing);
@@ -322,30 +347,5 @@ fn discover(
         }
         Some(UnitForm::Clone(path)) => statement(alloc, forms, table, unit, name, true, path),
         Some(UnitForm::Alias(path)) => statement(alloc, forms, table, unit, name, false, path),
-    }
-}
-
-/// What the name leads to in the unit. That it is nothing is not kept in the table: a clone or an alias that names
-/// nothing may stand in far more units than a tree has nodes, and no unit hangs from it.
-pub(crate) fn known(
-    alloc: Global,
-    forms: &Forms,
-    table: &mut Table,
-    unit: u32,
-    name: NameId,
-) -> Result<Known, Memory>
-    ensures { (m : RootedModel) (u : UnitPath) → IsFormsFor m forms.now → IsTable m [] table.old
-        → Stands (paths_of table.old) unit u
-        → IfOk result (IsKnown m table.old table.new unit name.n) }
-{
-    match table.at(unit, name) {
-        Some(known) => Ok(known),
-        None => match discover(alloc, forms, table, unit, name)? {
-            Known::Nothing => {
-                table.forget(unit, name);
-                Ok(Known::Nothing)
-            }
-            found => Ok(found),
-        },
     }
 }

@@ -11,10 +11,10 @@ use Rattle.domains.specs.declared.Value.{Value}
 use Rattle.gts_core.specs.Readings.{IsTotal}
 use Rattle.gts_core.specs.declared.system.Variable.{Variable}
 use Rattle.gts_core.specs.declared.system.GtsParts.{GtsParts}
-use Rattle.value_changes.specs.Changes.{HasChanged, AreChanges, numbers}
+use Rattle.value_changes.specs.Changes.{HasChanged, AreChanges, changed_numbers}
 use Rattle.value_changes.specs.Codes.{coded}
 use Rattle.value_changes.specs.Picking.{KeepsOthers, ArePicked}
-use Rattle.value_changes.specs.Restoring.{decoded_in, decoded_at, restored, mark_at, turned, GivesBack, TurnsBack}
+use Rattle.value_changes.specs.Restoring.{decoded_in, decoded_at, restored, mark_at, marks_turned, GivesBack, TurnsBack}
 use Rattle.value_changes.proofs.Picks.{set_other, one_taken, one_before, one_now, keeps_same, back_next, back_done}
 use Rattle.value_changes.proofs.Coding.{decoded_coded}
 use Rattle.value_changes.proofs.Restored.{restored_more}
@@ -81,10 +81,10 @@ module _ {A : Type 0} (m : List ℕ) (was old now : List A) (picked : ArePicked 
 
 -- these are those of the first members that changed, ascending
 pub record AreFirstChanges {A : Type 0} (first : List ℕ) (old new : List A) (variables : List VarId) : Type 0 where
-  pub ascend : Ascends (numbers variables)
-  pub each : (n : ℕ) → (IsOneOf (numbers variables) n ↔ (IsOneOf first n × HasChanged old new n))
+  pub ascend : Ascends (changed_numbers variables)
+  pub each : (n : ℕ) → (IsOneOf (changed_numbers variables) n ↔ (IsOneOf first n × HasChanged old new n))
 
-numbers_more : (xs : List VarId) (x : VarId) → numbers (xs ++ x ∷ []) ≡ numbers xs ++ x.n ∷ []
+numbers_more : (xs : List VarId) (x : VarId) → changed_numbers (xs ++ x ∷ []) ≡ changed_numbers xs ++ x.n ∷ []
 numbers_more [] x = refl
 numbers_more (y ∷ xs) x = ap (λ (z : List ℕ). y.n ∷ z) (numbers_more xs x)
 
@@ -108,19 +108,19 @@ module _ {A : Type 0} (m : List ℕ) (i n : ℕ) (ascend : Ascends m) (s : Stand
   pub changed_more : HasChanged old new n → (x : VarId) → x.n ≡ n
       → AreFirstChanges (take (i + 1) m) old new (xs ++ x ∷ [])
   changed_more changed x e = record {
-    ascend = subst Ascends (sym (numbers_more xs x)) (ascends_push (numbers xs) x.n are.ascend less);
+    ascend = subst Ascends (sym (numbers_more xs x)) (ascends_push (changed_numbers xs) x.n are.ascend less);
     each = λ k. subst (λ (z : List ℕ). IsOneOf z k ↔ (IsOneOf (take (i + 1) m) k × HasChanged old new k))
         (sym (numbers_more xs x)) (on k, off k);
   }
     where
-      less : (b : ℕ) → IsOneOf (numbers xs) b → b < x.n
+      less : (b : ℕ) → IsOneOf (changed_numbers xs) b → b < x.n
       less b h =
           let o = ((are.each b).0 h).0 in
           let r = first_place m i o.place b o.stands in
           let l = ascend.ascends o.place i b n r.0 r.1 s in omega (arith, l, e)
 
-      on : (k : ℕ) → IsOneOf (numbers xs ++ x.n ∷ []) k → IsOneOf (take (i + 1) m) k × HasChanged old new k
-      on k h = elim (one_split (numbers xs) (x.n ∷ []) k h) [
+      on : (k : ℕ) → IsOneOf (changed_numbers xs ++ x.n ∷ []) k → IsOneOf (take (i + 1) m) k × HasChanged old new k
+      on k h = elim (one_split (changed_numbers xs) (x.n ∷ []) k h) [
         | inl o ↦ let p = (are.each k).0 o in (one_before m i n k s p.0, p.1)
         | inr o ↦ (
             let same : n ≡ k = sym e ∙ only_item x.n k o in (
@@ -130,11 +130,11 @@ module _ {A : Type 0} (m : List ℕ) (i n : ℕ) (ascend : Ascends m) (s : Stand
             ))
       ]
 
-      off : (k : ℕ) → IsOneOf (take (i + 1) m) k × HasChanged old new k → IsOneOf (numbers xs ++ x.n ∷ []) k
+      off : (k : ℕ) → IsOneOf (take (i + 1) m) k × HasChanged old new k → IsOneOf (changed_numbers xs ++ x.n ∷ []) k
       off k h = elim (one_taken m i n k s h.0) [
-        | inl o ↦ one_left (numbers xs) (x.n ∷ []) k ((are.each k).1 (o, h.1))
-        | inr o ↦ subst (λ (z : ℕ). IsOneOf (numbers xs ++ x.n ∷ []) z) (e ∙ o)
-            (one_right (numbers xs) (x.n ∷ []) x.n (one_first x.n []))
+        | inl o ↦ one_left (changed_numbers xs) (x.n ∷ []) k ((are.each k).1 (o, h.1))
+        | inr o ↦ subst (λ (z : ℕ). IsOneOf (changed_numbers xs ++ x.n ∷ []) z) (e ∙ o)
+            (one_right (changed_numbers xs) (x.n ∷ []) x.n (one_first x.n []))
       ]
 
   -- the next one did not change
@@ -258,7 +258,7 @@ module _ (p : GtsParts) (m : List ℕ) (old new : List Value) (ascend : Ascends 
 
 -- the variables found among the first members whose marks turned, and what these give back
 pub record IsTurned (first rest : List ℕ) (before new : List Bool) (variables : List VarId) : Type 0 where
-  pub back : IsBack first rest before new (turned new variables)
+  pub back : IsBack first rest before new (marks_turned new variables)
   pub turns : AreFirstChanges first before new variables
 
 -- what a loop over the members keeps of the marks, whatever they were
@@ -281,10 +281,10 @@ module _ (m : List ℕ) (old new : List Bool) (ascend : Ascends m) where
     pub turned_more : (a ≡ b → ⊥) → (x : VarId) → x.n ≡ n → AreTurned m (i + 1) old new (xs ++ x ∷ [])
     turned_more differ x e before picked keeps =
         let f = turning before picked keeps in
-        let back = turned new xs in
+        let back = marks_turned new xs in
         let there : mark_at back n ≡ b = mark_there back n b
         (still m before old new picked i n back ascend f.back s b u) in
-        let more : turned new (xs ++ x ∷ []) ≡ set back n a =
+        let more : marks_turned new (xs ++ x ∷ []) ≡ set back n a =
         turned_last new xs x ∙ ap (λ (z : ℕ). set back z (not (mark_at back z))) e
         ∙ ap (λ (z : Bool). set back n (not z)) there ∙ ap (λ (z : Bool). set back n z) (other_mark a b differ) in
         record {
@@ -307,7 +307,7 @@ module _ (m : List ℕ) (old new : List Bool) (ascend : Ascends m) where
         let there : Stands new n a = subst (λ (z : Bool). Stands new n z) (sym e) u in
         let here = had m old new before i n a b s t u picked keeps in
         record {
-          back = back_keep m before old new picked i n (turned new xs) ascend f.back s a t there
+          back = back_keep m before old new picked i n (marks_turned new xs) ascend f.back s a t there
               (stands_within new n b u);
           turns = changed_same m i n ascend s before new xs f.turns
               (λ h. h.differ (stands_one before n h.before a h.had here
@@ -321,5 +321,5 @@ module _ (m : List ℕ) (old new : List Bool) (ascend : Ascends m) where
       let f = turning before picked keeps in
       record {
         turns = changed_all m i before new xs l keeps f.turns;
-        marks = back_all m before old new picked i (turned new xs) l f.back;
+        marks = back_all m before old new picked i (marks_turned new xs) l f.back;
       }

@@ -1,7 +1,7 @@
 -- Marks that are turned round one after the other.
 use Rattle.std.proofs.Common.{◌≡◌, ℕ, Bool, not, List, [], ◌∷◌, ◌++◌, set, refl}
 use Rattle.ar_base.specs.Numbers.{VarId}
-use Rattle.value_changes.specs.Restoring.{mark_at, turned}
+use Rattle.value_changes.specs.Restoring.{mark_at, marks_turned}
 
 -- the marks with one turned round
 abbrev pub flip : List Bool → ℕ → List Bool
@@ -9,6 +9,6 @@ flip marks n = set marks n (not (mark_at marks n))
 
 -- one mark more
 pub turned_last : (marks : List Bool) (xs : List VarId) (x : VarId)
-    → turned marks (xs ++ x ∷ []) ≡ flip (turned marks xs) x.n
+    → marks_turned marks (xs ++ x ∷ []) ≡ flip (marks_turned marks xs) x.n
 turned_last marks [] x = refl
 turned_last marks (y ∷ xs) x = turned_last (flip marks y.n) xs x

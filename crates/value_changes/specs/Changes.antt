@@ -13,10 +13,10 @@ pub record HasChanged {A : Type 0} (old new : List A) (n : ℕ) : Type 0 where
   pub differ : before ≡ after → ⊥
 
 -- the numbers of these variables
-abbrev pub numbers : List VarId → List ℕ
-numbers variables = map (λ (x : VarId). x.n) variables
+abbrev pub changed_numbers : List VarId → List ℕ
+changed_numbers variables = map (λ (x : VarId). x.n) variables
 
 -- these are the variables that changed, ascending
 pub record AreChanges {A : Type 0} (old new : List A) (variables : List VarId) : Type 0 where
-  pub ascend : Ascends (numbers variables)
-  pub each : (n : ℕ) → (IsOneOf (numbers variables) n ↔ HasChanged old new n)
+  pub ascend : Ascends (changed_numbers variables)
+  pub each : (n : ℕ) → (IsOneOf (changed_numbers variables) n ↔ HasChanged old new n)

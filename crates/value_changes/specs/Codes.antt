@@ -19,12 +19,12 @@ coded (Range low high) (Whole n) = if int_le low n && int_le n high then nat_abs
 coded (Range low high) (Symbol s) = 0
 
 -- the truth value that a number stands for
-abbrev pub truth_of : ℕ → Bool
-truth_of zero = false
-truth_of (suc n) = true
+abbrev pub truth_of_code : ℕ → Bool
+truth_of_code zero = false
+truth_of_code (suc n) = true
 
 -- the value of the domain that the number stands for; a number that is too large for a range stands for the upper end
 abbrev pub decoded : Domain → ℕ → Value
-decoded Boolean c = Truth (truth_of c)
+decoded Boolean c = Truth (truth_of_code c)
 decoded (Symbols symbols) c = Symbol c
 decoded (Range low high) c = Whole (low +ℤ pos (min c (nat_abs (high -ℤ low))))

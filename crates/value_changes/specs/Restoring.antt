@@ -29,9 +29,9 @@ abbrev pub mark_at : List Bool → ℕ → Bool
 mark_at marks n = unwrap_or (slice_get marks n) false
 
 -- the marks with those of these variables turned round
-abbrev pub turned : List Bool → List VarId → List Bool
-turned marks [] = marks
-turned marks (x ∷ xs) = turned (slice_set marks x.n (not (mark_at marks x.n))) xs
+abbrev pub marks_turned : List Bool → List VarId → List Bool
+marks_turned marks [] = marks
+marks_turned marks (x ∷ xs) = marks_turned (slice_set marks x.n (not (mark_at marks x.n))) xs
 
 -- these variables are those that changed from one valuation to another, and the codes give their old values back
 pub record GivesBack (p : GtsParts) (old new : List Value) (variables : List VarId) (codes : List ℕ) : Type 0 where
@@ -42,7 +42,7 @@ pub record GivesBack (p : GtsParts) (old new : List Value) (variables : List Var
 -- these variables are those whose marks turned from some marks to others, and give the first back
 pub record TurnsBack (old new : List Bool) (variables : List VarId) : Type 0 where
   pub turns : AreChanges old new variables
-  pub marks : turned new variables ≡ old
+  pub marks : marks_turned new variables ≡ old
 
 -- these say what changed from one valuation with marks to another, and give the first back
 pub record TellsChanges (p : GtsParts) (old : List Value) (old_known : List Bool) (new : List Value) (known : List Bool)
@@ -51,4 +51,4 @@ pub record TellsChanges (p : GtsParts) (old : List Value) (old_known : List Bool
   pub changes : AreChanges old new c.variables.items
   pub values : restored p new c.variables.items c.old.items ≡ old
   pub turns : AreChanges old_known known c.turned.items
-  pub marks : turned known c.turned.items ≡ old_known
+  pub marks : marks_turned known c.turned.items ≡ old_known

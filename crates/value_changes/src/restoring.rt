@@ -2,7 +2,7 @@
 
 ghost use Rattle.std.specs.Prelude.{◌≡◌, length};
 ghost use Rattle.gts_core.specs.Sound.{IsSound};
-ghost use Rattle.value_changes.specs.Restoring.{decoded_at, restored, turned};
+ghost use Rattle.value_changes.specs.Restoring.{decoded_at, restored, marks_turned};
 
 use crate::changes::Changes;
 use crate::codes::value_of;
@@ -16,7 +16,7 @@ pub fn restore(parts: &GtsParts, values: &mut Vec<Value>, known: &mut Vec<bool>,
     requires long { length changes.now.variables.items ≡ length changes.now.old.items }
     ensures values { values.new.items
         ≡ restored parts.now values.old.items changes.now.variables.items changes.now.old.items }
-    ensures known { known.new.items ≡ turned known.old.items changes.now.turned.items }
+    ensures known { known.new.items ≡ marks_turned known.old.items changes.now.turned.items }
 {
     put(parts, values, &changes.variables, &changes.old);
     turn(known, &changes.turned);
@@ -50,7 +50,7 @@ fn put(parts: &GtsParts, values: &mut Vec<Value>, variables: &[VarId], codes: &[
 
 // Turns the marks of these variables round.
 fn turn(marks: &mut Vec<bool>, variables: &[VarId])
-    ensures { marks.new.items ≡ turned marks.old.items variables.now }
+    ensures { marks.new.items ≡ marks_turned marks.old.items variables.now }
 {
     for variable in variables {
         let n = variable.n as usize;

@@ -21,17 +21,17 @@ use Rattle.gts_core.specs.declared.system.GtsParts.{GtsParts}
 use Rattle.gts_core.specs.Readings.{value_in, is_met}
 use Rattle.gts_core.specs.Readings.{IsTotal}
 use Rattle.way_flags.specs.Ways.{AreFlags}
-use Rattle.way_flags.specs.Taking.{HasWay, TakesPart, AreTakers}
+use Rattle.way_flags.specs.Taking.{HasWayNumber, TakesPart, AreTakers}
 use Rattle.way_flags.specs.Taking as takes
-use Rattle.way_flags.specs.Effects.{effect_of, action_effects, body_effects, found_effects, taken_effects, Gives}
-use Rattle.way_flags.specs.Receiving.{IsState}
+use Rattle.way_flags.specs.Effects.{effect_of, action_effects, body_effects, found_effects, taken_effects, EffectGives}
+use Rattle.way_flags.specs.Receiving.{IsStateVariable}
 use Rattle.way_flags.specs.declared.effects.Effect.{Effect}
 use Rattle.gts_core.proofs.Tests.{answer_true, is_true}
 use Rattle.ar_base.proofs.Standing.{one_first, one_rest}
 use Rattle.gts_core.proofs.Reading.{passes_answer, value_yielded, yielded_value}
 use Rattle.way_flags.proofs.Taking.{acted, taken_effect}
 
-gives_left : (es fs : List Effect) (x : ℕ) (v : Value) → Gives es x v → Gives (es ++ fs) x v
+gives_left : (es fs : List Effect) (x : ℕ) (v : Value) → EffectGives es x v → EffectGives (es ++ fs) x v
 gives_left es fs x v h = record {
   place = h.place;
   effect = h.effect;
@@ -40,7 +40,7 @@ gives_left es fs x v h = record {
   value = h.value;
 }
 
-gives_right : (es fs : List Effect) (x : ℕ) (v : Value) → Gives fs x v → Gives (es ++ fs) x v
+gives_right : (es fs : List Effect) (x : ℕ) (v : Value) → EffectGives fs x v → EffectGives (es ++ fs) x v
 gives_right es fs x v h = record {
   place = length es + h.place;
   effect = h.effect;
@@ -50,13 +50,13 @@ gives_right es fs x v h = record {
       h.value;
 }
 
-gives_split : (es fs : List Effect) (x : ℕ) (v : Value) → Gives (es ++ fs) x v → Gives es x v ⊎ Gives fs x v
+gives_split : (es fs : List Effect) (x : ℕ) (v : Value) → EffectGives (es ++ fs) x v → EffectGives es x v ⊎ EffectGives fs x v
 gives_split es fs x v h = elim (stands_split es fs h.place h.effect h.stands) [
   | inl k ↦ inl (record { place = h.place; effect = h.effect; stands = k; target = h.target; value = h.value })
   | inr k ↦ inr (record { place = k.0; effect = h.effect; stands = k.2; target = h.target; value = h.value })
 ]
 
-gives_none : (x : ℕ) (v : Value) → Gives [] x v → ⊥
+gives_none : (x : ℕ) (v : Value) → EffectGives [] x v → ⊥
 gives_none x v h = nothing h.place h.stands
   where
     nothing : (k : ℕ) → Stands [] k h.effect → ⊥
@@ -71,22 +71,22 @@ record Reached (t : List Value) (action : List Assign) (x : ℕ) (v : Value) : T
   value : value_in t assign.value ≡ v
 
 -- what stands where the test holds
-given_where : (b : Bool) (es : List Effect) (x : ℕ) (v : Value) → Gives (cond b es []) x v → (b ≡ true) × Gives es x v
+given_where : (b : Bool) (es : List Effect) (x : ℕ) (v : Value) → EffectGives (cond b es []) x v → (b ≡ true) × EffectGives es x v
 given_where true es x v h = (refl, h)
 given_where false es x v h = absurd (gives_none x v h)
 
-where_given : (b : Bool) (es : List Effect) (x : ℕ) (v : Value) → b ≡ true → Gives es x v → Gives (cond b es []) x v
+where_given : (b : Bool) (es : List Effect) (x : ℕ) (v : Value) → b ≡ true → EffectGives es x v → EffectGives (cond b es []) x v
 where_given true es x v e h = h
 where_given false es x v e h = absurd (cc e)
 
-only_effect : (e : Effect) (x : ℕ) (v : Value) → Gives (e ∷ []) x v → (e.target.n ≡ x) × (e.value ≡ v)
+only_effect : (e : Effect) (x : ℕ) (v : Value) → EffectGives (e ∷ []) x v → (e.target.n ≡ x) × (e.value ≡ v)
 only_effect e x v h = go h.place h.effect h.stands h.target h.value
   where
     go : (k : ℕ) (f : Effect) → Stands (e ∷ []) k f → f.target.n ≡ x → f.value ≡ v → (e.target.n ≡ x) × (e.value ≡ v)
     go zero f st a b = let same : e ≡ f = cc in (ap (λ (z : Effect). z.target.n) same ∙ a, ap (λ (z : Effect). z.value) same ∙ b)
     go (suc k) f st a b = cc
 
-reached_from : (t : List Value) (action : List Assign) (x : ℕ) (v : Value) → Gives (action_effects t action) x v
+reached_from : (t : List Value) (action : List Assign) (x : ℕ) (v : Value) → EffectGives (action_effects t action) x v
     → Reached t action x v
 reached_from t [] x v h = absurd (gives_none x v h)
 reached_from t (a ∷ more) x v h = elim
@@ -99,12 +99,12 @@ reached_from t (a ∷ more) x v h = elim
 
 reached_there : (t : List Value) (action : List Assign) (k : ℕ) (a : Assign) (x : ℕ) (v : Value) → Stands action k a
     → list_all (is_met t) a.when.items ≡ true → a.target.n ≡ x → value_in t a.value ≡ v
-    → Gives (action_effects t action) x v
+    → EffectGives (action_effects t action) x v
 reached_there t [] zero a x v st met e i = cc
 reached_there t [] (suc k) a x v st met e i = cc
 reached_there t (b ∷ more) zero a x v st met e i =
     let same : b ≡ a = cc in
-    let P : Assign → Type 0 = λ z. Gives (cond (list_all (is_met t) z.when.items) (effect_of t z ∷ []) []) x v in
+    let P : Assign → Type 0 = λ z. EffectGives (cond (list_all (is_met t) z.when.items) (effect_of t z ∷ []) []) x v in
     gives_left (cond (list_all (is_met t) b.when.items) (effect_of t b ∷ []) []) (action_effects t more) x v
     (subst P (sym same) (where_given (list_all (is_met t) a.when.items) (effect_of t a ∷ []) x v met
     (record { place = 0; effect = effect_of t a; stands = refl; target = e; value = i })))
@@ -118,15 +118,15 @@ record Taken (t : List Value) (ways : List Way) (ids : List WayId) (x : ℕ) (v 
   is_one : IsOneOf ids has
   way : Way
   stands : Stands ways has.n way
-  gives : Gives (body_effects t way.body) x v
+  gives : EffectGives (body_effects t way.body) x v
 
 found_from : (t : List Value) (ways : List Way) (n : ℕ) (f : Option Way) → slice_get ways n ≡ f → (x : ℕ) (v : Value)
-    → Gives (found_effects t f) x v → (w : Way) × Stands ways n w × Gives (body_effects t w.body) x v
+    → EffectGives (found_effects t f) x v → (w : Way) × Stands ways n w × EffectGives (body_effects t w.body) x v
 found_from t ways n (Some w) e x v h = (w, e, h)
 found_from t ways n None e x v h = absurd (gives_none x v h)
 
 taken_from : (t : List Value) (ways : List Way) (ids : List WayId) (x : ℕ) (v : Value)
-    → Gives (taken_effects t ways ids) x v → Taken t ways ids x v
+    → EffectGives (taken_effects t ways ids) x v → Taken t ways ids x v
 taken_from t ways [] x v h = absurd (gives_none x v h)
 taken_from t ways (id ∷ ids) x v h =
     elim (gives_split (found_effects t (slice_get ways id.n)) (taken_effects t ways ids) x v h) [
@@ -135,14 +135,14 @@ taken_from t ways (id ∷ ids) x v h =
     ]
 
 taken_there : (t : List Value) (ways : List Way) (ids : List WayId) (k : ℕ) (id : WayId) (w : Way) (x : ℕ) (v : Value)
-    → Stands ids k id → Stands ways id.n w → Gives (body_effects t w.body) x v → Gives (taken_effects t ways ids) x v
+    → Stands ids k id → Stands ways id.n w → EffectGives (body_effects t w.body) x v → EffectGives (taken_effects t ways ids) x v
 taken_there t ways [] zero id w x v st sw g = cc
 taken_there t ways [] (suc k) id w x v st sw g = cc
 taken_there t ways (a ∷ ids) zero id w x v st sw g =
     let same : a ≡ id = cc in
     let found : slice_get ways a.n ≡ Some w = ap (λ (z : WayId). slice_get ways z.n) same ∙ sw in
     gives_left (found_effects t (slice_get ways a.n)) (taken_effects t ways ids) x v
-    (subst (λ (z : Option Way). Gives (found_effects t z) x v) (sym found) g)
+    (subst (λ (z : Option Way). EffectGives (found_effects t z) x v) (sym found) g)
 taken_there t ways (a ∷ ids) (suc k) id w x v st sw g =
     gives_right (found_effects t (slice_get ways a.n)) (taken_effects t ways ids) x v
     (taken_there t ways ids k id w x v st sw g)
@@ -172,7 +172,7 @@ module _ (p : GtsParts) (sound : IsSound p) (t : List Value) (total : IsTotal p 
     (right : AreFlags p t flags) (top : ℕ) (w : s.Way ℕ) (m : Means_way (way_bodies p) top w)
     (ids : List WayId) (takers : AreTakers p flags top ids) where
   -- an effect of the way that is fired
-  pub given_effect : (x : ℕ) (v : Value) → Gives (taken_effects t p.ways.items ids) x v
+  pub given_effect : (x : ℕ) (v : Value) → EffectGives (taken_effects t p.ways.items ids) x v
       → Effects (HasValue (net_of p) t) w x v
   given_effect x v h =
       let r = taken_from t p.ways.items ids x v h in
@@ -181,7 +181,7 @@ module _ (p : GtsParts) (sound : IsSound p) (t : List Value) (total : IsTotal p 
       r.gives
     where
       go : (n : ℕ) (way : Way) → Stands p.ways.items n way → TakesPart p flags top n → (b : WayBody) → way.body ≡ b
-          → Gives (body_effects t b) x v → Effects (HasValue (net_of p) t) w x v
+          → EffectGives (body_effects t b) x v → Effects (HasValue (net_of p) t) w x v
       go n way st tk (body.Sync ps) e g = absurd (gives_none x v g)
       go n way st tk (body.Local guard action) e g =
           let r = reached_from t action.items x v g in
@@ -202,7 +202,7 @@ module _ (p : GtsParts) (sound : IsSound p) (t : List Value) (total : IsTotal p 
           (taken_effect p (HasValue (net_of p) t) flags top right.flag sound w m n tk tree.0 tree.1 own)
 
   pub effect_given : (x : ℕ) (v : Value) → Effects (HasValue (net_of p) t) w x v
-      → Gives (taken_effects t p.ways.items ids) x v
+      → EffectGives (taken_effects t p.ways.items ids) x v
   effect_given x v h =
       let r = acted p (HasValue (net_of p) t) flags top right.flag top takes.itself m h in
       let typed = sound.actions r.number r.way r.guard r.action r.stands r.is_local r.assign r.is_one in
@@ -213,20 +213,20 @@ module _ (p : GtsParts) (sound : IsSound p) (t : List Value) (total : IsTotal p 
       let value : value_in t r.assign.value ≡ v =
       sym (yielded_value p t total r.assign.value (kind_of_domain typed.variable.domain) typed.value v
       r.yields) in
-      let own : Gives (body_effects t (body.Local r.guard r.action)) x v =
+      let own : EffectGives (body_effects t (body.Local r.guard r.action)) x v =
       reached_there t r.action.items r.is_one.place r.assign x v r.is_one.stands met r.target value in
-      let has : HasWay ids r.number = takers.complete r.number r.taken in
+      let has : HasWayNumber ids r.number = takers.complete r.number r.taken in
       taken_there t p.ways.items ids has.place has.way r.way x v has.stands
       (subst (λ (z : ℕ). Stands p.ways.items z r.way) (sym has.number) r.stands)
-      (subst (λ (z : WayBody). Gives (body_effects t z) x v) (sym r.is_local) own)
+      (subst (λ (z : WayBody). EffectGives (body_effects t z) x v) (sym r.is_local) own)
 
 -- an effect is on a state variable
 pub to_state : (p : GtsParts) (sound : IsSound p) (t : List Value) (ids : List WayId) (x : ℕ) (v : Value)
-    → Gives (taken_effects t p.ways.items ids) x v → IsState p x
+    → EffectGives (taken_effects t p.ways.items ids) x v → IsStateVariable p x
 to_state p sound t ids x v h = let r = taken_from t p.ways.items ids x v h in go r.has.n r.way r.stands r.way.body refl r.gives
   where
-    go : (n : ℕ) (way : Way) → Stands p.ways.items n way → (b : WayBody) → way.body ≡ b → Gives (body_effects t b) x v
-        → IsState p x
+    go : (n : ℕ) (way : Way) → Stands p.ways.items n way → (b : WayBody) → way.body ≡ b → EffectGives (body_effects t b) x v
+        → IsStateVariable p x
     go n way st (body.Sync ps) e g = absurd (gives_none x v g)
     go n way st (body.Local guard action) e g =
         let r = reached_from t action.items x v g in

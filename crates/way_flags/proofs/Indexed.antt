@@ -8,9 +8,9 @@ use Rattle.ar_base.proofs.Standing.{stands_within, stands_one, stands_none, only
 use Rattle.ar_base.proofs.Items.{one_last, last_cases}
 use Rattle.gts_core.specs.declared.system.Way.{Way}
 use Rattle.gts_core.specs.declared.system.GtsParts.{GtsParts}
-use Rattle.way_flags.specs.Ways.{parts_of, IsOrder}
-use Rattle.way_flags.specs.Renewing.{IsPlaceOf}
-use Rattle.way_flags.specs.Index.{IsPlacedAt, GuardNames, AreGuards, IsAbove, AreAbove, AddsGuards, IsPartOf, AddsParts, ArePlacedUpTo, IsWayIndex}
+use Rattle.way_flags.specs.Ways.{parts_of, IsWayOrder}
+use Rattle.way_flags.specs.Renewing.{IsPlaceWith}
+use Rattle.way_flags.specs.Index.{IsPlacedAt, WayGuardNames, AreGuards, IsWholeOf, AreAbove, AddsGuards, IsPartPair, AddsParts, ArePlacedUpTo, IsWayIndex}
 use Rattle.way_flags.specs.declared.index.WayIndex.{WayIndex}
 use Rattle.number_pairs.specs.Pairing.{IsPaired}
 
@@ -39,7 +39,7 @@ module _ (p : GtsParts) where
       | inr e ↦ (
           let same : w ≡ way = stands_one p.ways.items i w way (subst (λ (z : ℕ). Stands p.ways.items z w) e st) here in
           subst (λ (z : ℕ). IsOneOf new (x.n, z)) (sym e)
-          (adds.all x (subst (λ (z : Way). GuardNames z.body x) same n)))
+          (adds.all x (subst (λ (z : Way). WayGuardNames z.body x) same n)))
     ];
   }
 
@@ -76,7 +76,7 @@ module _ (p : GtsParts) where
     ];
   }
     where
-      now : (n k : ℕ) → IsPartOf (parts_of way.body) i (n, k) → IsAbove p n k
+      now : (n k : ℕ) → IsPartPair (parts_of way.body) i (n, k) → IsWholeOf p n k
       now n k r = record {
         part = r.part;
         has = record {
@@ -223,11 +223,11 @@ module _ (p : GtsParts) (index : WayIndex) (ix : IsWayIndex p index) where
 -- the ways above one way
 pub above_added : (above : List (ℕ × ℕ)) (places ways listed : List ℕ) (shown : List ℕ) (w : ℕ) (Old New : ℕ → Type 0)
     → ways ≡ listed → places ≡ shown → ((n : ℕ) → (IsOneOf listed n ↔ IsPaired above (w ∷ []) n))
-    → ((q : ℕ) → (New q ↔ (Old q ⊎ IsPlaceOf places (IsOneOf ways) q))) → (q : ℕ)
-    → (New q ↔ (Old q ⊎ IsPlaceOf shown (λ n. IsOneOf above (w, n)) q))
+    → ((q : ℕ) → (New q ↔ (Old q ⊎ IsPlaceWith places (IsOneOf ways) q))) → (q : ℕ)
+    → (New q ↔ (Old q ⊎ IsPlaceWith shown (λ n. IsOneOf above (w, n)) q))
 above_added above places ways listed shown w Old New f g each adds q = (there, back)
   where
-    there : New q → Old q ⊎ IsPlaceOf shown (λ n. IsOneOf above (w, n)) q
+    there : New q → Old q ⊎ IsPlaceWith shown (λ n. IsOneOf above (w, n)) q
     there h = elim ((adds q).0 h) [
       | inl o ↦ inl o
       | inr r ↦ (
@@ -240,7 +240,7 @@ above_added above places ways listed shown w Old New f g each adds q = (there, b
           }))
     ]
 
-    back : Old q ⊎ IsPlaceOf shown (λ n. IsOneOf above (w, n)) q → New q
+    back : Old q ⊎ IsPlaceWith shown (λ n. IsOneOf above (w, n)) q → New q
     back h = elim h [
       | inl o ↦ (adds q).1 (inl o)
       | inr r ↦ (
@@ -254,7 +254,7 @@ above_added above places ways listed shown w Old New f g each adds q = (there, b
     ]
 
 -- each way has a place at which it stands
-pub all_placed : (p : GtsParts) (order shown : List WayId) (places : List ℕ) → shown ≡ order → IsOrder p order
+pub all_placed : (p : GtsParts) (order shown : List WayId) (places : List ℕ) → shown ≡ order → IsWayOrder p order
     → length places ≡ length p.ways.items → ArePlacedUpTo shown (length shown) places → (n place : ℕ)
     → Stands places n place → IsPlacedAt order n place
 all_placed p order shown places e is long are n place st =

@@ -8,16 +8,16 @@ use Rattle.gts_core.specs.declared.system.Way.{Way}
 use Rattle.gts_core.specs.declared.system.WayBody.{WayBody}
 use Rattle.gts_core.specs.declared.system.WayBody.TheVariants.{Local, Sync}
 use Rattle.gts_core.specs.declared.system.GtsParts.{GtsParts}
-use Rattle.way_flags.specs.Ways.{parts_of, HasPart}
+use Rattle.way_flags.specs.Ways.{parts_of, WayHasPart}
 use Rattle.way_flags.proofs.Lists.{one_of_more, one_kept, one_last}
-use Rattle.way_flags.specs.Taking.{takes_part, TakesPart, HasWay, AreOnce, AreTakers}
+use Rattle.way_flags.specs.Taking.{takes_part, TakesPart, HasWayNumber, AreDifferentIds, AreTakers}
 use Rattle.way_flags.specs.Taking as takes
-use Rattle.way_flags.specs.Meeting.{AreMet, Meets, IsTaken, MeetsParts, IsAlone}
+use Rattle.way_flags.specs.Meeting.{AreMet, MeetsWays, HasTakenPart, MeetsParts, IsMetAlone}
 use Rattle.way_flags.specs.declared.takers.Met.{Met}
 use Rattle.ar_base.proofs.Few.{few_below}
 
 -- the first way
-pub is_alone : (way : WayId) (old new : Met) → old.ways.items ≡ [] → Meets (λ n. n ≡ way.n) old new → IsAlone way new
+pub is_alone : (way : WayId) (old new : Met) → old.ways.items ≡ [] → MeetsWays (λ n. n ≡ way.n) old new → IsMetAlone way new
 is_alone way old new e m = record {
   are = m.are;
   there = m.there way.n refl;
@@ -31,7 +31,7 @@ is_alone way old new e m = record {
 -- The parts of one way
 
 module _ (flags : List Bool) where
-  pub meets_none : (met : Met) → AreMet met → Meets (IsTaken [] flags) met met
+  pub meets_none : (met : Met) → AreMet met → MeetsWays (HasTakenPart [] flags) met met
   meets_none met are = record {
     are = are;
     keeps = λ k id s. s;
@@ -39,8 +39,8 @@ module _ (flags : List Bool) where
     there = λ n h. absurd (stands_none h.is_part.place h.part h.is_part.stands);
   }
 
-  taken_kept : (ps : List (Bool × WayId)) (q : Bool × WayId) (n : ℕ) → IsTaken ps flags n
-      → IsTaken (ps ++ q ∷ []) flags n
+  taken_kept : (ps : List (Bool × WayId)) (q : Bool × WayId) (n : ℕ) → HasTakenPart ps flags n
+      → HasTakenPart (ps ++ q ∷ []) flags n
   taken_kept ps q n h = record {
     part = h.part;
     is_part = one_kept ps q h.part h.is_part;
@@ -49,8 +49,8 @@ module _ (flags : List Bool) where
   }
 
   -- a part that takes part is met
-  pub meets_one : (ps : List (Bool × WayId)) (q : Bool × WayId) (old mid new : Met) → Meets (IsTaken ps flags) old mid
-      → takes_part flags q ≡ true → Meets (λ n. n ≡ q.1.n) mid new → Meets (IsTaken (ps ++ q ∷ []) flags) old new
+  pub meets_one : (ps : List (Bool × WayId)) (q : Bool × WayId) (old mid new : Met) → MeetsWays (HasTakenPart ps flags) old mid
+      → takes_part flags q ≡ true → MeetsWays (λ n. n ≡ q.1.n) mid new → MeetsWays (HasTakenPart (ps ++ q ∷ []) flags) old new
   meets_one ps q old mid new a h b = record {
     are = b.are;
     keeps = λ k id s. b.keeps k id (a.keeps k id s);
@@ -64,12 +64,12 @@ module _ (flags : List Bool) where
     ];
   }
     where
-      kept : (n : ℕ) → HasWay mid.ways.items n → HasWay new.ways.items n
+      kept : (n : ℕ) → HasWayNumber mid.ways.items n → HasWayNumber new.ways.items n
       kept n c = record { place = c.place; way = c.way; stands = b.keeps c.place c.way c.stands; number = c.number }
 
   -- another part is not
-  pub meets_past : (ps : List (Bool × WayId)) (q : Bool × WayId) (old mid : Met) → Meets (IsTaken ps flags) old mid
-      → takes_part flags q ≡ false → Meets (IsTaken (ps ++ q ∷ []) flags) old mid
+  pub meets_past : (ps : List (Bool × WayId)) (q : Bool × WayId) (old mid : Met) → MeetsWays (HasTakenPart ps flags) old mid
+      → takes_part flags q ≡ false → MeetsWays (HasTakenPart (ps ++ q ∷ []) flags) old mid
   meets_past ps q old mid a h = record {
     are = a.are;
     keeps = a.keeps;
@@ -88,23 +88,23 @@ module _ (flags : List Bool) where
 -- what is met when the parts of the first so many ways are
 pub record IsTaking (p : GtsParts) (flags : List Bool) (top : ℕ) (done : ℕ) (met : Met) : Type 0 where
   pub are : AreMet met
-  pub sound : (n : ℕ) → HasWay met.ways.items n → TakesPart p flags top n
-  pub first : HasWay met.ways.items top
-  pub closed : (k : ℕ) (id : WayId) (part : Bool × WayId) → k < done → Stands met.ways.items k id → HasPart p id.n part
-      → takes_part flags part ≡ true → HasWay met.ways.items part.1.n
+  pub sound : (n : ℕ) → HasWayNumber met.ways.items n → TakesPart p flags top n
+  pub first : HasWayNumber met.ways.items top
+  pub closed : (k : ℕ) (id : WayId) (part : Bool × WayId) → k < done → Stands met.ways.items k id → WayHasPart p id.n part
+      → takes_part flags part ≡ true → HasWayNumber met.ways.items part.1.n
   pub reached : done ≤ length met.ways.items
 
 module _ (p : GtsParts) (sound : IsSound p) (flags : List Bool) (top : ℕ) (inside : top < length p.ways.items) where
-  pub taking_first : (way : WayId) (met : Met) → way.n ≡ top → IsAlone way met → IsTaking p flags top 0 met
+  pub taking_first : (way : WayId) (met : Met) → way.n ≡ top → IsMetAlone way met → IsTaking p flags top 0 met
   taking_first way met e a = record {
     are = a.are;
     sound = λ n h. subst (λ (z : ℕ). TakesPart p flags top z) (sym (a.only n h ∙ e)) takes.itself;
-    first = subst (λ (z : ℕ). HasWay met.ways.items z) e a.there;
+    first = subst (λ (z : ℕ). HasWayNumber met.ways.items z) e a.there;
     closed = λ k id part l s has t. absurd (omega (arith, l));
     reached = omega arith;
   }
 
-  part_within : (n : ℕ) (part : Bool × WayId) → HasPart p n part → part.1.n < length p.ways.items
+  part_within : (n : ℕ) (part : Bool × WayId) → WayHasPart p n part → part.1.n < length p.ways.items
   part_within n part has = go has.way.body refl has.is_part
     where
       go : (b : WayBody) → has.way.body ≡ b → IsOneOf (parts_of b) part → part.1.n < length p.ways.items
@@ -153,18 +153,18 @@ module _ (p : GtsParts) (sound : IsSound p) (flags : List Bool) (top : ℕ) (ins
     reached = let h = stands_within new.ways.items done id (m.keeps done id at) in omega (arith, h);
   }
     where
-      kept : (n : ℕ) → HasWay old.ways.items n → HasWay new.ways.items n
+      kept : (n : ℕ) → HasWayNumber old.ways.items n → HasWayNumber new.ways.items n
       kept n c = record { place = c.place; way = c.way; stands = m.keeps c.place c.way c.stands; number = c.number }
 
-      taken : (n : ℕ) → IsTaken (parts_of way.body) flags n → TakesPart p flags top n
+      taken : (n : ℕ) → HasTakenPart (parts_of way.body) flags n → TakesPart p flags top n
       taken n b = takes.part b.part (before.sound id.n (record { place = done; way = id; stands = at; number = refl }))
           (record { way = way; stands = st; is_part = b.is_part }) b.takes b.number
 
       last_or_not : (k : ℕ) → k < done + 1 → (k < done) ⊎ (k ≡ done)
       last_or_not k l = at_most k done l
 
-      at_place : (k : ℕ) (a : WayId) (part : Bool × WayId) → Stands new.ways.items k a → HasPart p a.n part
-          → takes_part flags part ≡ true → (k < done) ⊎ (k ≡ done) → HasWay new.ways.items part.1.n
+      at_place : (k : ℕ) (a : WayId) (part : Bool × WayId) → Stands new.ways.items k a → WayHasPart p a.n part
+          → takes_part flags part ≡ true → (k < done) ⊎ (k ≡ done) → HasWayNumber new.ways.items part.1.n
       at_place k a part s has t (inl l) =
           let b = stands_some old.ways.items k (let h = before.reached in omega (arith, h, l)) in
           let same : b.0 ≡ a = stands_one new.ways.items k b.0 a (m.keeps k b.0 b.1) s in
@@ -172,7 +172,7 @@ module _ (p : GtsParts) (sound : IsSound p) (flags : List Bool) (top : ℕ) (ins
       at_place k a part s has t (inr e) =
           let same : a ≡ id = stands_one new.ways.items done a id (subst (λ (z : ℕ). Stands new.ways.items z a) e s)
           (m.keeps done id at) in
-          let here : HasPart p id.n part = subst (λ (z : WayId). HasPart p z.n part) same has in
+          let here : WayHasPart p id.n part = subst (λ (z : WayId). WayHasPart p z.n part) same has in
           let one_way : here.way ≡ way = stands_one p.ways.items id.n here.way way here.stands st in
           m.there part.1.n (record {
             part = part;
@@ -186,12 +186,12 @@ module _ (p : GtsParts) (sound : IsSound p) (flags : List Bool) (top : ℕ) (ins
       → AreTakers p flags top met.ways.items
   taking_all done met h m = record { sound = m.sound; complete = complete; once = m.are.once }
     where
-      complete : (n : ℕ) → TakesPart p flags top n → HasWay met.ways.items n
+      complete : (n : ℕ) → TakesPart p flags top n → HasWayNumber met.ways.items n
       complete n takes.itself = m.first
       complete n (takes.part {n = k} q t has e i) =
           let w = complete k t in
-          subst (λ (z : ℕ). HasWay met.ways.items z) i
-          (m.closed w.place w.way q (let b = stands_within met.ways.items w.place w.way w.stands in omega (arith, b, h)) w.stands (subst (λ (z : ℕ). HasPart p z q) (sym w.number) has) e)
+          subst (λ (z : ℕ). HasWayNumber met.ways.items z) i
+          (m.closed w.place w.way q (let b = stands_within met.ways.items w.place w.way w.stands in omega (arith, b, h)) w.stands (subst (λ (z : ℕ). WayHasPart p z q) (sym w.number) has) e)
 
   -- a way that is met is a way of the system
   pub met_within : (done : ℕ) (met : Met) (k : ℕ) (id : WayId) → IsTaking p flags top done met

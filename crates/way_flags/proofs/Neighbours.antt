@@ -7,8 +7,8 @@ use Rattle.std.proofs.lemmas.Option.{get_or_from_slice_get}
 use Rattle.ar_base.specs.Lists.{Stands}
 use Rattle.ar_base.proofs.Standing.{stands_one, stands_within, stands_some, one_contains, contains_one, at_most}
 use Rattle.domains.specs.declared.Value.{Value}
-use Rattle.way_flags.specs.Effects.{Gives}
-use Rattle.way_flags.specs.Receiving.{Agree, Clash, ReceivesOne, ReceivesTwo}
+use Rattle.way_flags.specs.Effects.{EffectGives}
+use Rattle.way_flags.specs.Receiving.{GiveSameValues, Clash, ReceivesOne, ReceivesTwo}
 use Rattle.way_flags.specs.declared.effects.Effect.{Effect}
 
 -- the targets ascend
@@ -16,33 +16,33 @@ abbrev pub AreOrdered : List Effect → Type 0
 AreOrdered effects = IsNonDecreasingBy (λ (e : Effect). e.target.n) effects
 
 -- what effects give they give in any order
-pub gives_moved : (xs ys : List Effect) → IsPermutation xs ys → (n : ℕ) (v : Value) → Gives xs n v → Gives ys n v
+pub gives_moved : (xs ys : List Effect) → IsPermutation xs ys → (n : ℕ) (v : Value) → EffectGives xs n v → EffectGives ys n v
 gives_moved xs ys perm n v h =
     let o = one_contains ys h.effect (Contains-permutation xs ys h.effect perm
     (contains_one xs h.effect (record { place = h.place; stands = h.stands }))) in
     record { place = o.place; effect = h.effect; stands = o.stands; target = h.target; value = h.value }
 
-pub gives_back : (xs ys : List Effect) → IsPermutation xs ys → (n : ℕ) (v : Value) → Gives ys n v → Gives xs n v
+pub gives_back : (xs ys : List Effect) → IsPermutation xs ys → (n : ℕ) (v : Value) → EffectGives ys n v → EffectGives xs n v
 gives_back xs ys perm = gives_moved ys xs (IsPermutation-sym xs ys perm)
 
 -- neighbours among the first so many that are on one variable give it the same value
 abbrev pub AgreeBefore : List Effect → ℕ → Type 0
-AgreeBefore effects i = (k : ℕ) (d e : Effect) → k + 1 < i → Stands effects k d → Stands effects (k + 1) e → Agree d e
+AgreeBefore effects i = (k : ℕ) (d e : Effect) → k + 1 < i → Stands effects k d → Stands effects (k + 1) e → GiveSameValues d e
 
 -- the next neighbour agrees too
 pub agree_next : (effects : List Effect) (i j : ℕ) (d e : Effect) → i ≡ j + 1 → Stands effects j d → Stands effects i e
-    → Agree d e → AgreeBefore effects i → AgreeBefore effects (i + 1)
+    → GiveSameValues d e → AgreeBefore effects i → AgreeBefore effects (i + 1)
 agree_next effects i j d e at s t agree before k x y l a b = elim (at_most (k + 1) i l) [
   | inl h ↦ before k x y h a b
   | inr h ↦ here (let q : k ≡ j = omega (arith, h, at) in q) h
 ]
   where
-    here : k ≡ j → k + 1 ≡ i → Agree x y
+    here : k ≡ j → k + 1 ≡ i → GiveSameValues x y
     here q h =
         let first : d ≡ x = stands_one effects j d x s (subst (λ (z : ℕ). Stands effects z x) q a) in
         let second : e ≡ y = stands_one effects i e y t (subst (λ (z : ℕ). Stands effects z y) h b) in
-        let P : Effect → Type 0 = λ z. Agree z y in
-        let Q : Effect → Type 0 = λ z. Agree d z in
+        let P : Effect → Type 0 = λ z. GiveSameValues z y in
+        let Q : Effect → Type 0 = λ z. GiveSameValues d z in
         subst P first (subst Q second agree)
 
 module _ (effects : List Effect) (ordered : AreOrdered effects) where
@@ -68,7 +68,7 @@ module _ (effects : List Effect) (ordered : AreOrdered effects) where
 
   -- where neighbours agree any two effects do
   agree_far : (i m j : ℕ) (d e : Effect) → AgreeBefore effects i → j + m < i → Stands effects j d
-      → Stands effects (j + m) e → Agree d e
+      → Stands effects (j + m) e → GiveSameValues d e
   agree_far i zero j d e h l s t = λ same. ap (λ (z : Effect). z.value) (stands_one effects j d e s (subst (λ (z : ℕ). Stands effects z e) (let q : j + 0 ≡ j = omega arith in q) t))
   agree_far i (suc m) j d e h l s t = λ same.
       let at : j + suc m ≡ (j + m) + 1 = omega arith in
@@ -81,7 +81,7 @@ module _ (effects : List Effect) (ordered : AreOrdered effects) where
       first ∙ second
 
   agree_any : (i j k : ℕ) (d e : Effect) → AgreeBefore effects i → j < i → k < i → Stands effects j d
-      → Stands effects k e → Agree d e
+      → Stands effects k e → GiveSameValues d e
   agree_any i j k d e h a b s t = λ same. elim (cases_lt j k) [
     | inl l ↦ (let m = apart j k (omega (arith, l)) in agree_far i m.0 j d e h (omega (arith, b, m.1)) s (subst (λ (z : ℕ). Stands effects z e) m.1 t) same)
     | inr l ↦ (let m = apart k j l in sym (agree_far i m.0 k e d h (omega (arith, a, m.1)) t (subst (λ (z : ℕ). Stands effects z d) m.1 s) (sym same)))
@@ -92,7 +92,7 @@ module _ (effects : List Effect) (ordered : AreOrdered effects) where
       apart (suc x) zero l = absurd (omega (arith, l))
       apart (suc x) (suc y) l = let m = apart x y (omega (arith, l)) in (m.0, let e = m.1 in omega (arith, e))
 
-  one_of_two : (i n : ℕ) (v w : Value) (g : Gives effects n v) (h : Gives effects n w) → AgreeBefore effects i
+  one_of_two : (i n : ℕ) (v w : Value) (g : EffectGives effects n v) (h : EffectGives effects n w) → AgreeBefore effects i
       → g.place < i → h.place < i → v ≡ w
   one_of_two i n v w g h agree a b =
       let same : g.effect.target.n ≡ h.effect.target.n = g.target ∙ sym h.target in

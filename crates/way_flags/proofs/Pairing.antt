@@ -10,9 +10,9 @@ use Rattle.domains.specs.declared.Value.{Value}
 use Rattle.gts_core.specs.declared.system.Variable.{Variable}
 use Rattle.gts_core.specs.declared.system.GtsParts.{GtsParts}
 use Rattle.way_flags.proofs.Lists.{one_more, one_of_more, one_kept, one_last}
-use Rattle.way_flags.specs.Effects.{Gives}
+use Rattle.way_flags.specs.Effects.{EffectGives}
 use Rattle.flow_propagate.specs.NewValues.{IsRenewed}
-use Rattle.way_flags.specs.Receiving.{Leaves, Keeps, AreOneEach, IsLast, LastOrOther, AddsOne}
+use Rattle.way_flags.specs.Receiving.{LeavesItsDomain, KeepsDomain, AreOneEach, IsLast, LastOrOther, AddsOne}
 use Rattle.way_flags.specs.declared.effects.Effect.{Effect}
 use Rattle.way_flags.proofs.Neighbours.{AreOrdered, target_order, stands_earlier}
 
@@ -41,7 +41,7 @@ keep_next p effects i e x s t holds before k d y l a b = elim (at_most k i l) [
         let Q : Effect → Type 0 = λ z. Holds y.domain z.value in
         subst Q same (subst P one holds)
 
-kept_at : (p : GtsParts) (effects : List Effect) (i n : ℕ) (x : Variable) (v : Value) (g : Gives effects n v)
+kept_at : (p : GtsParts) (effects : List Effect) (i n : ℕ) (x : Variable) (v : Value) (g : EffectGives effects n v)
     → KeepBefore p effects i → Stands p.variables.items n x → g.place < i → Holds x.domain v
 kept_at p effects i n x v g before s l =
     let P : Value → Type 0 = λ z. Holds x.domain z in
@@ -49,15 +49,15 @@ kept_at p effects i n x v g before s l =
     (subst (λ (z : ℕ). Stands p.variables.items z x) (sym g.target) s))
 
 pub keeps_all : (p : GtsParts) (effects : List Effect) (i : ℕ) → length effects ≤ i → KeepBefore p effects i → (n : ℕ)
-    → Keeps p effects n
+    → KeepsDomain p effects n
 keeps_all p effects i l before n x v s g = kept_at p effects i n x v g before s (let w = stands_within effects g.place g.effect g.stands in omega (arith, w, l))
 
 pub keeps_lesser : (p : GtsParts) (effects : List Effect) → AreOrdered effects → (i : ℕ) (e : Effect)
-    → Stands effects i e → KeepBefore p effects i → (n : ℕ) → n < e.target.n → Keeps p effects n
+    → Stands effects i e → KeepBefore p effects i → (n : ℕ) → n < e.target.n → KeepsDomain p effects n
 keeps_lesser p effects ordered i e t before n l x v s g = kept_at p effects i n x v g before s (let a = g.target in stands_earlier effects ordered g.place i g.effect e g.stands t (omega (arith, a, l)))
 
 pub leaves_there : (p : GtsParts) (effects : List Effect) (i : ℕ) (e : Effect) (x : Variable) → Stands effects i e
-    → Stands p.variables.items e.target.n x → (Holds x.domain e.value → ⊥) → Leaves p effects e.target.n
+    → Stands p.variables.items e.target.n x → (Holds x.domain e.value → ⊥) → LeavesItsDomain p effects e.target.n
 leaves_there p effects i e x s t out =
     record {
       variable = x;
@@ -95,7 +95,7 @@ last_or_other new r n st = go (nat_eq r.0.n n) refl
 
 -- one of the first so many effects gives the variable this value
 pub record GivesBefore (effects : List Effect) (i n : ℕ) (v : Value) : Type 0 where
-  pub gives : Gives effects n v
+  pub gives : EffectGives effects n v
   pub before : gives.place < i
 
 -- the pairs for the first so many effects

@@ -9,7 +9,7 @@ use Rattle.gts_core.specs.declared.system.WayBody.{WayBody}
 use Rattle.gts_core.specs.declared.system.WayBody.TheVariants.{Local, Sync}
 use Rattle.gts_core.specs.declared.system.GtsParts.{GtsParts}
 use Rattle.part_flags.specs.Parts.{are_set, flag_at}
-use Rattle.way_flags.specs.Ways.{parts_of, HasPart, IsOrder, IsPlacing, Keeps, ArePlaced, are_placed}
+use Rattle.way_flags.specs.Ways.{parts_of, WayHasPart, IsWayOrder, IsPlacing, KeepsMarks, ArePartsPlaced, are_placed}
 use Rattle.way_flags.proofs.Lists.{flag_same, flag_kept, flag_from, one_more}
 
 -- each part of a way whose parts are placed is placed
@@ -49,7 +49,7 @@ module _ (p : GtsParts) (order : List WayId) (placed : List Bool) (is : IsPlacin
         (one_more order id j other t) e;
     ready = λ k a part s has. elim (one_more order id k a s) [
       | inl s ↦ flag_kept placed id.n part.1.n (is.ready k a part s has)
-      | inr e ↦ flag_kept placed id.n part.1.n (parts_ready part (subst (λ (z : WayId). HasPart p z.n part) e.1 has))
+      | inr e ↦ flag_kept placed id.n part.1.n (parts_ready part (subst (λ (z : WayId). WayHasPart p z.n part) e.1 has))
     ];
   }
     where
@@ -59,7 +59,7 @@ module _ (p : GtsParts) (order : List WayId) (placed : List Bool) (is : IsPlacin
       here : flag_at (set placed id.n true) id.n ≡ true
       here = flag_same placed id.n true (omega (arith, below, is.long))
 
-      parts_ready : (part : Bool × WayId) → HasPart p id.n part → flag_at placed part.1.n ≡ true
+      parts_ready : (part : Bool × WayId) → WayHasPart p id.n part → flag_at placed part.1.n ≡ true
       parts_ready part has =
           let same : has.way ≡ way = stands_one p.ways.items id.n has.way way has.stands st in
           placed_each placed way.body ready part (subst (λ (z : Way). IsOneOf (parts_of z.body) part) same has.is_part)
@@ -76,7 +76,7 @@ module _ (p : GtsParts) (order : List WayId) (placed : List Bool) (is : IsPlacin
       once j k a other (inr s) (inr t) e = s.0 ∙ sym t.0
 
       after : (j k : ℕ) (a other : WayId) (part : Bool × WayId) → (Stands order k a) ⊎ ((k ≡ length order) × (a ≡ id))
-          → HasPart p a.n part → (Stands order j other) ⊎ ((j ≡ length order) × (other ≡ id)) → other.n ≡ part.1.n
+          → WayHasPart p a.n part → (Stands order j other) ⊎ ((j ≡ length order) × (other ≡ id)) → other.n ≡ part.1.n
           → j < k
       after j k a other part (inl s) has (inl t) e = is.after j k a other part s has t e
       after j k a other part (inl s) has (inr t) e =
@@ -86,14 +86,14 @@ module _ (p : GtsParts) (order : List WayId) (placed : List Bool) (is : IsPlacin
       after j k a other part (inr s) has (inl t) e = let h = stands_within order j other t in omega (arith, h, s.0)
       after j k a other part (inr s) has (inr t) e =
           let set : flag_at placed part.1.n ≡ true =
-          parts_ready part (subst (λ (z : WayId). HasPart p z.n part) s.1 has) in
+          parts_ready part (subst (λ (z : WayId). WayHasPart p z.n part) s.1 has) in
           let n : other.n ≡ id.n = ap (λ (z : WayId). z.n) t.1 in
           absurd (fresh (subst (λ (z : ℕ). flag_at placed z ≡ true) (sym e ∙ n) set))
 
 -- one part more is placed
 pub placed_more : (old mid new : List Bool) (parts : List (Bool × WayId)) (i : ℕ) (q : Bool × WayId) → Stands parts i q
-    → Keeps mid new → flag_at new q.1.n ≡ true
-    → ArePlaced mid parts i → ArePlaced new parts (i + 1)
+    → KeepsMarks mid new → flag_at new q.1.n ≡ true
+    → ArePartsPlaced mid parts i → ArePartsPlaced new parts (i + 1)
 placed_more old mid new parts i q st keeps here are =
     record {
       each = below_more (λ (k : ℕ). (r : Bool × WayId) → Stands parts k r → flag_at new r.1.n ≡ true) i
@@ -103,11 +103,11 @@ placed_more old mid new parts i q st keeps here are =
     last : (r : Bool × WayId) → Stands parts i r → flag_at new r.1.n ≡ true
     last r s = let same : q ≡ r = stands_one parts i q r st s in subst (λ (z : Bool × WayId). flag_at new z.1.n ≡ true) same here
 
-pub keeps_on : (old mid new : List Bool) → Keeps old mid → Keeps mid new → Keeps old new
+pub keeps_on : (old mid new : List Bool) → KeepsMarks old mid → KeepsMarks mid new → KeepsMarks old new
 keeps_on old mid new a b = record { keeps = λ n h. b.keeps n (a.keeps n h) }
 
 -- all parts are placed
-pub each_set : (placed : List Bool) (ps : List (Bool × WayId)) (n : ℕ) → length ps ≤ n → ArePlaced placed ps n
+pub each_set : (placed : List Bool) (ps : List (Bool × WayId)) (n : ℕ) → length ps ≤ n → ArePartsPlaced placed ps n
     → are_set placed ps ≡ true
 each_set placed [] n low are = refl
 each_set placed (r ∷ ps) n low are =
@@ -118,7 +118,7 @@ each_set placed (r ∷ ps) n low are =
 -- each of the first so many ways is placed, and there are no more
 pub all_ordered : (p : GtsParts) (order : List WayId) (placed : List Bool) (count : ℕ) → length p.ways.items ≤ count
     → IsPlacing p order placed
-    → ((k : ℕ) → k < count → flag_at placed k ≡ true) → IsOrder p order
+    → ((k : ℕ) → k < count → flag_at placed k ≡ true) → IsWayOrder p order
 all_ordered p order placed count long is each = record {
   inside = λ k a s. (is.inside k a s).0;
   once = is.once;
@@ -126,5 +126,5 @@ all_ordered p order placed count long is each = record {
   after = is.after;
 }
 
-pub keeps_same : (old : List Bool) → Keeps old old
+pub keeps_same : (old : List Bool) → KeepsMarks old old
 keeps_same old = record { keeps = λ n h. h }

@@ -16,7 +16,7 @@ use Rattle.gts_core.specs.declared.system.Way.{Way}
 use Rattle.gts_core.specs.declared.system.GtsParts.{GtsParts}
 use Rattle.gts_core.specs.Readings.{IsTotal}
 use Rattle.part_flags.specs.Parts.{flag_at}
-use Rattle.way_flags.specs.Ways.{parts_of, IsOrder, AreFlags, can_by}
+use Rattle.way_flags.specs.Ways.{parts_of, IsWayOrder, AreFlags, can_by}
 use Rattle.way_flags.proofs.Lists.{flag_same, flag_other}
 use Rattle.way_flags.proofs.Firing.{can_answer}
 
@@ -32,7 +32,7 @@ means_way p n u (leaf st) = let r = stands_map_back body_of_way p.ways.items n _
     r.1
 means_way p n u (joint st m) = let r = stands_map_back body_of_way p.ways.items n _ st in stands_within p.ways.items n r.0 r.1
 
-module _ (p : GtsParts) (sound : IsSound p) (order : List WayId) (is : IsOrder p order) (t : List Value)
+module _ (p : GtsParts) (sound : IsSound p) (order : List WayId) (is : IsWayOrder p order) (t : List Value)
     (total : IsTotal p t) where
   pub renew_more : (i : ℕ) (flags : List Bool) (id : WayId) (way : Way) (b : Bool) → AreSetTo p order t i flags
       → Stands order i id → Stands p.ways.items id.n way → b ≡ can_by t flags way.body

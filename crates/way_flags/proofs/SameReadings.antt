@@ -14,7 +14,7 @@ use Rattle.ar_meaning.specs.Facts.{HasValue}
 use Rattle.ar_meaning.proofs.ByNumber as number
 use Rattle.gts_core.specs.View.{net_of, numbered, variable_of}
 use Rattle.gts_core.specs.Sound.{IsTyped}
-use Rattle.gts_core.specs.Readings.{IsTotal, value_at, value_in}
+use Rattle.gts_core.specs.Readings.{IsTotal, valuation_at, value_in}
 use Rattle.gts_core.specs.declared.system.GtsParts.{GtsParts}
 use Rattle.gts_core.proofs.Numbering.{yields_numbered, yields_back}
 use Rattle.gts_core.proofs.Reading.{read_value, yielded_value, value_yielded}
@@ -23,7 +23,7 @@ use Rattle.gts_core.proofs.Viewing.{variable_there, are_numbered}
 module _ (p : GtsParts) (old new : List Value) (before : IsTotal p old) (after : IsTotal p new) where
   -- an expression has the same value where its variables have
   pub same_in : (e : Expr VarId) (k : ValueKind) → IsTyped p e k
-      → ((x : VarId) → Mentions x (out-Expr VarId e) → value_at old x.n ≡ value_at new x.n)
+      → ((x : VarId) → Mentions x (out-Expr VarId e) → valuation_at old x.n ≡ valuation_at new x.n)
       → value_in old e ≡ value_in new e
   same_in e k typed same = yielded_value p new after e k typed (value_in old e) now
     where

@@ -23,16 +23,16 @@ use Rattle.ar_meaning.proofs.Found.{same_answer}
 use Rattle.number_pairs.specs.Pairing.{IsPaired}
 use Rattle.gts_core.specs.View.{net_of}
 use Rattle.gts_core.specs.Sound.{IsSound}
-use Rattle.gts_core.specs.Readings.{IsTotal, value_at, is_met, is_truth}
+use Rattle.gts_core.specs.Readings.{IsTotal, valuation_at, is_met, is_truth}
 use Rattle.gts_core.specs.declared.system.Way.{Way}
 use Rattle.gts_core.specs.declared.system.WayBody.{WayBody}
 use Rattle.gts_core.specs.declared.system.WayBody.TheVariants.{Local, Sync}
 use Rattle.gts_core.specs.declared.system.GtsParts.{GtsParts}
 use Rattle.part_flags.specs.Parts.{flag_at, musts_by, some_by, has_must_in}
-use Rattle.way_flags.specs.Ways.{parts_of, HasPart, AreFlags, can_by}
-use Rattle.way_flags.specs.Index.{GuardNames, IsWayIndex, IsAbove}
+use Rattle.way_flags.specs.Ways.{parts_of, WayHasPart, AreFlags, can_by}
+use Rattle.way_flags.specs.Index.{WayGuardNames, IsWayIndex, IsWholeOf}
 use Rattle.way_flags.specs.declared.index.WayIndex.{WayIndex}
-use Rattle.way_flags.specs.Renewing.{WereFlags, WaitsAt, Waits, IsPlaceOf, AreSettled, IsSettledBut, AreBehind, AreLooked}
+use Rattle.way_flags.specs.Renewing.{WereFlags, WaitsAt, WayWaits, IsPlaceWith, AreFlagsSettled, IsSettledBut, AreBehind, AreLooked}
 use Rattle.way_flags.proofs.Firing.{can_answer}
 use Rattle.way_flags.proofs.Lists.{flag_same, flag_other, one_more}
 use Rattle.way_flags.proofs.Renewing.{AreSetTo, renew_more, renewed}
@@ -116,11 +116,11 @@ module _ (p : GtsParts) (sound : IsSound p) where
         sym f.number ∙ ap (λ (z : WayId). z.n) (stands_one index.order.items place f.id g.id f.at g.at) ∙ g.number
 
     -- a part's place comes before that of the way
-    part_before : (n m j k : ℕ) → IsAbove p n m → Stands index.places.items n j → Stands index.places.items m k → j < k
+    part_before : (n m j k : ℕ) → IsWholeOf p n m → Stands index.places.items n j → Stands index.places.items m k → j < k
     part_before n m j k a sj sk =
         let f = ix.placed n j sj in
         let g = ix.placed m k sk in
-        ix.order.after j k g.id f.id a.part g.at (subst (λ (z : ℕ). HasPart p z a.part) (sym g.number) a.has) f.at
+        ix.order.after j k g.id f.id a.part g.at (subst (λ (z : ℕ). WayHasPart p z a.part) (sym g.number) a.has) f.at
         (f.number ∙ sym a.number)
 
     -- no way is a part of its own
@@ -135,7 +135,7 @@ module _ (p : GtsParts) (sound : IsSound p) where
     -- the flag was right
     pub looked_still : (n place : ℕ) (way : Way) (waiting : BTreeSet ℕ) (flags : List Bool)
         → Stands index.places.items n place → Stands p.ways.items n way → flag_at flags n ≡ can_by t flags way.body
-        → IsSettledBut p index.places.items t place waiting flags → AreSettled p index.places.items t waiting flags
+        → IsSettledBut p index.places.items t place waiting flags → AreFlagsSettled p index.places.items t waiting flags
     looked_still n place way waiting flags at here e but = record {
       long = but.long;
       within = but.within;
@@ -156,9 +156,9 @@ module _ (p : GtsParts) (sound : IsSound p) where
         → Stands index.places.items n place → Stands p.ways.items n way
         → (can_by t flags way.body ≡ flag_at flags n → ⊥)
         → ((q : ℕ) → (WaitsAt new q ↔ (WaitsAt old q
-        ⊎ IsPlaceOf index.places.items (λ m. IsOneOf index.above.pairs.items (n, m)) q)))
+        ⊎ IsPlaceWith index.places.items (λ m. IsOneOf index.above.pairs.items (n, m)) q)))
         → IsSettledBut p index.places.items t place old flags
-        → AreSettled p index.places.items t new (flip flags n) × ((q : ℕ) → WaitsAt new q → place < q)
+        → AreFlagsSettled p index.places.items t new (flip flags n) × ((q : ℕ) → WaitsAt new q → place < q)
     looked_turned n place way old new flags at here differs adds but = (
       record {
         long = set_long flags n (not (flag_at flags n)) ∙ but.long;
@@ -199,8 +199,8 @@ module _ (p : GtsParts) (sound : IsSound p) where
             → ((q : Bool × WayId) × IsOneOf (parts_of w.body) q × (q.1.n ≡ n))
             ⊎ ((q : Bool × WayId) → IsOneOf (parts_of w.body) q → q.1.n ≡ n → ⊥)
             → (m ≡ n) ⊎ (m ≡ n → ⊥) → Stands index.places.items m place
-            ⊎ (Waits index.places.items old m ⊎ (flag_at flags m ≡ can_by t flags w.body))
-            → Waits index.places.items new m ⊎ (flag_at (flip flags n) m ≡ can_by t (flip flags n) w.body)
+            ⊎ (WayWaits index.places.items old m ⊎ (flag_at flags m ≡ can_by t flags w.body))
+            → WayWaits index.places.items new m ⊎ (flag_at (flip flags n) m ≡ can_by t (flip flags n) w.body)
         right m w st (inl r) told before =
             let below = stands_within p.ways.items m w st in
             let o : IsOneOf index.above.pairs.items (n, m) =
@@ -217,7 +217,7 @@ module _ (p : GtsParts) (sound : IsSound p) where
 
     -- where none waits, all flags are right
     pub all_right : IsTotal p t → (waiting : BTreeSet ℕ) (flags : List Bool)
-        → AreSettled p index.places.items t waiting flags → ((q : ℕ) → WaitsAt waiting q → ⊥) → AreFlags p t flags
+        → AreFlagsSettled p index.places.items t waiting flags → ((q : ℕ) → WaitsAt waiting q → ⊥) → AreFlags p t flags
     all_right total waiting flags are none =
         renewed p sound index.order.items ix.order t total (length index.order.items) flags (omega arith)
         (up (length index.order.items) (omega arith))
@@ -237,9 +237,9 @@ module _ (p : GtsParts) (sound : IsSound p) where
     -- the ways whose guards name what changed wait at first
     pub first_settled : IsTotal p t → (changed : List VarId) (flags : List Bool) → WereFlags p t changed flags
         → (waiting : BTreeSet ℕ)
-        → ((q : ℕ) → (WaitsAt waiting q ↔ IsPlaceOf index.places.items
+        → ((q : ℕ) → (WaitsAt waiting q ↔ IsPlaceWith index.places.items
         (IsPaired index.guards.pairs.items (map (λ (x : VarId). x.n) changed)) q))
-        → AreSettled p index.places.items t waiting flags
+        → AreFlagsSettled p index.places.items t waiting flags
     first_settled total changed flags were waiting waits = record {
       long = were.were.long;
       within = λ q h. (let r = (waits q).0 h in (r.n, r.stands));
@@ -250,7 +250,7 @@ module _ (p : GtsParts) (sound : IsSound p) where
         was n way st = flag_is were.before were.total flags were.were n way st
 
         right : (n : ℕ) (way : Way) → Stands p.ways.items n way → (body : WayBody) → way.body ≡ body
-            → Waits index.places.items waiting n ⊎ (flag_at flags n ≡ can_by t flags way.body)
+            → WayWaits index.places.items waiting n ⊎ (flag_at flags n ≡ can_by t flags way.body)
         right n way st (Sync ps) e =
             inr (was n way st ∙ ap (λ z. can_by were.before flags z) e ∙ ap (λ z. can_by t flags z) (sym e))
         right n way st (Local guard action) e = elim (waits_or_not waiting k.0) [
@@ -266,10 +266,10 @@ module _ (p : GtsParts) (sound : IsSound p) where
             k = place_of n below
 
             pair : (x : VarId) → Mentions x (out-Expr VarId guard) → IsOneOf index.guards.pairs.items (x.n, n)
-            pair x m = ix.guards.all n way x below st (subst (λ z. GuardNames z x) (sym e) m)
+            pair x m = ix.guards.all n way x below st (subst (λ z. WayGuardNames z x) (sym e) m)
 
             kept : (WaitsAt waiting k.0 → ⊥) → (x : VarId) → Mentions x (out-Expr VarId guard)
-                → value_at were.before x.n ≡ value_at t x.n
+                → valuation_at were.before x.n ≡ valuation_at t x.n
             kept lacks x m = were.same x.n (λ y o i. lacks ((waits k.0).1 (record {
               n = n;
               has = record {
@@ -337,7 +337,7 @@ module _ (p : GtsParts) (index : WayIndex) (ix : IsWayIndex p index) where
 
   -- a place was taken
   pub taken : (t : List Value) (place : ℕ) (old new : BTreeSet ℕ) (flags : List Bool)
-      → AreSettled p index.places.items t old flags → WaitsAt old place
+      → AreFlagsSettled p index.places.items t old flags → WaitsAt old place
       → ((q : ℕ) → (WaitsAt new q ↔ (WaitsAt old q × (q ≡ place → ⊥))))
       → ((q : ℕ) → WaitsAt new q → place < q) → IsSettledBut p index.places.items t place new flags
   taken t place old new flags are is rest later = record {
@@ -348,8 +348,8 @@ module _ (p : GtsParts) (index : WayIndex) (ix : IsWayIndex p index) where
     right = λ n way st. elim (are.right n way st) [ inl k ↦ waits n k (cases_eq k.0 place) | inr e ↦ inr (inr e) ];
   }
     where
-      waits : (n : ℕ) → (k : Waits index.places.items old n) → (k.0 ≡ place) ⊎ (k.0 ≡ place → ⊥) → {X : Type 0}
-          → Stands index.places.items n place ⊎ (Waits index.places.items new n ⊎ X)
+      waits : (n : ℕ) → (k : WayWaits index.places.items old n) → (k.0 ≡ place) ⊎ (k.0 ≡ place → ⊥) → {X : Type 0}
+          → Stands index.places.items n place ⊎ (WayWaits index.places.items new n ⊎ X)
       waits n k (inl e) = inl (subst (λ (z : ℕ). Stands index.places.items n z) e k.1)
       waits n k (inr f) = inr (inl (k.0, k.1, (rest k.0).1 (k.2, f)))
 

@@ -23,9 +23,9 @@ use Rattle.flow_propagate.proofs.Written.{written_long}
 use Rattle.part_flags.specs.Parts.{flag_at}
 use Rattle.way_flags.specs.Ways.{AreFlags}
 use Rattle.way_flags.specs.Taking.{AreTakers}
-use Rattle.way_flags.specs.Effects.{taken_effects, Gives}
-use Rattle.way_flags.specs.Receiving.{AreToState, ReceivesOne, IsLeastClash, Keeps, IsLeastLeaving, AreOneEach}
-use Rattle.way_flags.specs.Ready.{IsReady, AreReceived}
+use Rattle.way_flags.specs.Effects.{taken_effects, EffectGives}
+use Rattle.way_flags.specs.Receiving.{AreToState, ReceivesOne, IsLeastClash, KeepsDomain, IsLeastLeaving, AreOneEach}
+use Rattle.way_flags.specs.Ready.{IsReadyWay, AreReceived}
 use Rattle.way_flags.specs.declared.effects.Effect.{Effect}
 use Rattle.way_flags.proofs.Acting.{given_effect, effect_given, to_state}
 use Rattle.way_flags.proofs.Neighbours.{gives_moved, gives_back}
@@ -35,11 +35,11 @@ use Rattle.way_flags.proofs.Writing.{Writes, IsUnwritten, written_at, receives_e
 pub moved_to_state : (p : GtsParts) (sound : IsSound p) (t : List Value) (ids : List WayId) (all sorted : List Effect)
     → all ≡ taken_effects t p.ways.items ids → IsPermutation all sorted → AreToState p sorted
 moved_to_state p sound t ids all sorted is perm n v g =
-    to_state p sound t ids n v (subst (λ (z : List Effect). Gives z n v) is (gives_back all sorted perm n v g))
+    to_state p sound t ids n v (subst (λ (z : List Effect). EffectGives z n v) is (gives_back all sorted perm n v g))
 
 -- the pairs of effects that keep their domains
 pub new_values : (p : GtsParts) (effects : List Effect) (new : List (VarId × Value)) → AreToState p effects
-    → ((n : ℕ) → Keeps p effects n) → AreOneEach effects new → AreNewValues p new
+    → ((n : ℕ) → KeepsDomain p effects n) → AreOneEach effects new → AreNewValues p new
 new_values p effects new states keeps each = record { ascend = record { ascends = rise }; each = one }
   where
     rise : (j k a b : ℕ) → j < k → Stands (map (λ (r : VarId × Value). r.0.n) new) j a
@@ -74,13 +74,13 @@ module _ (p : GtsParts) (sound : IsSound p) (t : List Value) (total : IsTotal p 
   abbrev pub E : ℕ → Value → Type 0
   E = Effects (HasValue (net_of p) t) w
 
-  on : (n : ℕ) (v : Value) → Gives sorted n v → E n v
+  on : (n : ℕ) (v : Value) → EffectGives sorted n v → E n v
   on n v g = given_effect p sound t total flags right top w m ids takers n v
-      (subst (λ (z : List Effect). Gives z n v) is (gives_back all sorted perm n v g))
+      (subst (λ (z : List Effect). EffectGives z n v) is (gives_back all sorted perm n v g))
 
-  off : (n : ℕ) (v : Value) → E n v → Gives sorted n v
+  off : (n : ℕ) (v : Value) → E n v → EffectGives sorted n v
   off n v e = gives_moved all sorted perm n v
-      (subst (λ (z : List Effect). Gives z n v) (sym is)
+      (subst (λ (z : List Effect). EffectGives z n v) (sym is)
       (effect_given p sound t total flags right top w m ids takers n v e))
 
   -- a variable all of whose values are the same does not clash
@@ -112,7 +112,7 @@ module _ (p : GtsParts) (sound : IsSound p) (t : List Value) (total : IsTotal p 
       })
 
   -- a variable all of whose values are in its domain does not leave it
-  no_leave_at : (n : ℕ) (y : s.Variable ℕ) → Stands (net_of p).variables n y → Keeps p sorted n → LeavesDomain E y → ⊥
+  no_leave_at : (n : ℕ) (y : s.Variable ℕ) → Stands (net_of p).variables n y → KeepsDomain p sorted n → LeavesDomain E y → ⊥
   no_leave_at n y st keeps l =
       let x = variable_back p n y st in
       let d = subst (λ (z : s.Variable ℕ). LeavesDomain E z) (sym x.2) l in
@@ -141,13 +141,13 @@ module _ (p : GtsParts) (sound : IsSound p) (t : List Value) (total : IsTotal p 
     all = λ n v e.
         let g = off n v e in
         let r = each.all n v g in
-        let h : Gives sorted n r.pair.1 =
-        subst (λ (z : ℕ). Gives sorted z r.pair.1) r.is (each.given r.pair r.is_one) in
+        let h : EffectGives sorted n r.pair.1 =
+        subst (λ (z : ℕ). EffectGives sorted z r.pair.1) r.is (each.given r.pair r.is_one) in
         (r.pair, r.is_one, r.is, one n r.pair.1 v h g);
   }
 
   pub ready : IsLeastClash sorted None → IsLeastLeaving p sorted None → (new : List (VarId × Value))
-      → AreOneEach sorted new → IsReady (net_of p) t w (written t new)
+      → AreOneEach sorted new → IsReadyWay (net_of p) t w (written t new)
   ready one keeps new each = record {
     can = can_fire;
     no_clash = none_clash one;

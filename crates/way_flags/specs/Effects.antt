@@ -37,7 +37,7 @@ taken_effects t ways [] = []
 taken_effects t ways (id ∷ more) = found_effects t (slice_get ways id.n) ++ taken_effects t ways more
 
 -- one of the effects gives the variable this value
-pub record Gives (effects : List Effect) (n : ℕ) (v : Value) : Type 0 where
+pub record EffectGives (effects : List Effect) (n : ℕ) (v : Value) : Type 0 where
   pub place : ℕ
   pub effect : Effect
   pub stands : Stands effects place effect

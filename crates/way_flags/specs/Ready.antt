@@ -11,7 +11,7 @@ use Rattle.way_flags.specs.declared.faults.ReceiveFault.{ReceiveFault}
 use Rattle.way_flags.specs.declared.faults.ReceiveFault.TheVariants as fault
 
 -- the way can be fired from t without a fault before the flows, and leads to this state
-pub record IsReady (net : s.Net ℕ) (t : List Value) (w : s.Way ℕ) (state : List Value) : Type 0 where
+pub record IsReadyWay (net : s.Net ℕ) (t : List Value) (w : s.Way ℕ) (state : List Value) : Type 0 where
   pub can : Can (HasValue net t) w
   pub no_clash : HasNo net.variables (steps.Clashes (Effects (HasValue net t) w))
   pub no_range : HasNo net.variables (steps.LeavesDomain (Effects (HasValue net t) w))

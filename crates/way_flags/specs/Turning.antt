@@ -6,11 +6,11 @@ use Rattle.gts_core.specs.declared.system.GtsParts.{GtsParts}
 use Rattle.part_flags.specs.Parts.{flag_at}
 
 -- the flags with those of these ways turned round, one after the other
-abbrev pub turned : List Bool → List WayId → List Bool
-turned flags [] = flags
-turned flags (way ∷ more) = turned (slice_set flags way.n (not (flag_at flags way.n))) more
+abbrev pub flags_turned : List Bool → List WayId → List Bool
+flags_turned flags [] = flags
+flags_turned flags (way ∷ more) = flags_turned (slice_set flags way.n (not (flag_at flags way.n))) more
 
 -- ways of the system, each once
-pub record AreWays (p : GtsParts) (ways : List WayId) : Type 0 where
+pub record AreWaysOfSystem (p : GtsParts) (ways : List WayId) : Type 0 where
   pub inside : (id : WayId) → IsOneOf ways id → id.n < length p.ways.items
   pub once : (j k : ℕ) (a b : WayId) → Stands ways j a → Stands ways k b → a.n ≡ b.n → j ≡ k

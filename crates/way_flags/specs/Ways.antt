@@ -21,17 +21,17 @@ parts_of (Local guard action) = []
 parts_of (Sync parts) = parts.items
 
 -- this is one of the parts of the way of this number
-pub record HasPart (p : GtsParts) (n : ℕ) (part : Bool × WayId) : Type 0 where
+pub record WayHasPart (p : GtsParts) (n : ℕ) (part : Bool × WayId) : Type 0 where
   pub way : Way
   pub stands : Stands p.ways.items n way
   pub is_part : IsOneOf (parts_of way.body) part
 
 -- the ways of the system, all of them, each once and after its parts
-pub record IsOrder (p : GtsParts) (order : List WayId) : Type 0 where
+pub record IsWayOrder (p : GtsParts) (order : List WayId) : Type 0 where
   pub inside : (k : ℕ) (id : WayId) → Stands order k id → id.n < length p.ways.items
   pub once : (j k : ℕ) (id other : WayId) → Stands order j id → Stands order k other → id.n ≡ other.n → j ≡ k
   pub all : (n : ℕ) → n < length p.ways.items → (k : ℕ) × (id : WayId) × Stands order k id × (id.n ≡ n)
-  pub after : (j k : ℕ) (id other : WayId) (part : Bool × WayId) → Stands order k id → HasPart p id.n part
+  pub after : (j k : ℕ) (id other : WayId) (part : Bool × WayId) → Stands order k id → WayHasPart p id.n part
       → Stands order j other → other.n ≡ part.1.n → j < k
 
 -- the first ways of such an order, and for each way whether it is among them
@@ -40,9 +40,9 @@ pub record IsPlacing (p : GtsParts) (order : List WayId) (placed : List Bool) : 
   pub inside : (k : ℕ) (id : WayId) → Stands order k id → (id.n < length p.ways.items) × (flag_at placed id.n ≡ true)
   pub once : (j k : ℕ) (id other : WayId) → Stands order j id → Stands order k other → id.n ≡ other.n → j ≡ k
   pub all : (n : ℕ) → flag_at placed n ≡ true → (k : ℕ) × (id : WayId) × Stands order k id × (id.n ≡ n)
-  pub after : (j k : ℕ) (id other : WayId) (part : Bool × WayId) → Stands order k id → HasPart p id.n part
+  pub after : (j k : ℕ) (id other : WayId) (part : Bool × WayId) → Stands order k id → WayHasPart p id.n part
       → Stands order j other → other.n ≡ part.1.n → j < k
-  pub ready : (k : ℕ) (id : WayId) (part : Bool × WayId) → Stands order k id → HasPart p id.n part
+  pub ready : (k : ℕ) (id : WayId) (part : Bool × WayId) → Stands order k id → WayHasPart p id.n part
       → flag_at placed part.1.n ≡ true
 
 -- whether a way can fire, by the flags of its parts
@@ -61,9 +61,9 @@ are_placed placed (Local guard action) = true
 are_placed placed (Sync parts) = are_set placed parts.items
 
 -- what was set stays set
-pub record Keeps (old new : List Bool) : Type 0 where
+pub record KeepsMarks (old new : List Bool) : Type 0 where
   pub keeps : (n : ℕ) → flag_at old n ≡ true → flag_at new n ≡ true
 
 -- the first so many of these parts are placed
-pub record ArePlaced (placed : List Bool) (parts : List (Bool × WayId)) (count : ℕ) : Type 0 where
+pub record ArePartsPlaced (placed : List Bool) (parts : List (Bool × WayId)) (count : ℕ) : Type 0 where
   pub each : (k : ℕ) → k < count → (q : Bool × WayId) → Stands parts k q → flag_at placed q.1.n ≡ true

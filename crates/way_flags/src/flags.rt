@@ -3,7 +3,7 @@
 ghost use Rattle.std.specs.Prelude.{◌≡◌, ◌<◌, true, false, length, replicate, IfOk};
 ghost use Rattle.gts_core.specs.Sound.{IsSound};
 ghost use Rattle.gts_core.specs.Readings.{IsTotal};
-ghost use Rattle.way_flags.specs.Ways.{can_by, IsOrder, AreFlags};
+ghost use Rattle.way_flags.specs.Ways.{can_by, IsWayOrder, AreFlags};
 
 use ar_base::{Memory, WayId};
 use domains::Value;
@@ -38,7 +38,7 @@ pub(crate) fn can_fire(values: &[Value], flags: &[bool], body: &WayBody) -> bool
 /// Sets the flag of each way that can fire. Each way is looked at once, after its parts. Takes no memory.
 pub(crate) fn set_all(parts: &GtsParts, order: &[WayId], values: &[Value], flags: &mut Vec<bool>)
     requires sound { IsSound parts.now }
-    requires order { IsOrder parts.now order.now }
+    requires order { IsWayOrder parts.now order.now }
     requires total { IsTotal parts.now values.now }
     requires long { length flags.old.items ≡ length parts.now.ways.items }
     ensures { AreFlags parts.now values.now flags.new.items }

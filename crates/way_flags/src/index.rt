@@ -2,7 +2,7 @@
 
 ghost use Rattle.std.specs.Prelude.{◌≡◌, ◌<◌, ◌+◌, ◌^◌, length, IfOk};
 ghost use Rattle.gts_core.specs.Sound.{IsSound};
-ghost use Rattle.way_flags.specs.Ways.{IsOrder};
+ghost use Rattle.way_flags.specs.Ways.{IsWayOrder};
 ghost use Rattle.way_flags.specs.Index.{IsWayIndex, AreGuards, AreAbove, AddsParts, ArePlacedUpTo};
 
 use crate::order::way_order;

@@ -5,8 +5,8 @@ ghost use Rattle.gts_core.specs.Sound.{IsSound};
 ghost use Rattle.gts_core.specs.Readings.{IsTotal};
 ghost use Rattle.way_flags.specs.Ways.{AreFlags};
 ghost use Rattle.way_flags.specs.Index.{IsWayIndex};
-ghost use Rattle.way_flags.specs.Turning.{turned, AreWays};
-ghost use Rattle.way_flags.specs.Renewing.{WereFlags, WaitsAt, IsSettledBut, AreSettled, AreBehind, AreLooked, AreTurned};
+ghost use Rattle.way_flags.specs.Turning.{flags_turned, AreWaysOfSystem};
+ghost use Rattle.way_flags.specs.Renewing.{WereFlags, WaitsAt, IsSettledBut, AreFlagsSettled, AreBehind, AreLooked, AreTurned};
 
 use crate::flags::{can_fire, set_all, unset};
 use crate::index::WayIndex;
@@ -52,8 +52,8 @@ pub fn renew(
     requires total { IsTotal parts.now values.now }
     requires were { WereFlags parts.now values.now changed.now can.old.items }
     ensures flags { OnOk result (AreFlags parts.now values.now can.new.items) }
-    ensures ways { IfOk result (λ ways. AreWays parts.now ways.items) }
-    ensures back { IfOk result (λ ways. can.old.items ≡ turned can.new.items ways.items) }
+    ensures ways { IfOk result (λ ways. AreWaysOfSystem parts.now ways.items) }
+    ensures back { IfOk result (λ ways. can.old.items ≡ flags_turned can.new.items ways.items) }
     ensures err { OnErr result (can.new.items ≡ can.old.items) }
 {
     let waiting = first_waiting(alloc, index, changed)?;
@@ -80,11 +80,11 @@ fn look_at_all(
     requires sound { IsSound parts.now }
     requires index { IsWayIndex parts.now index.now }
     requires total { IsTotal parts.now values.now }
-    requires settled { AreSettled parts.now index.now.places.items values.now waiting
+    requires settled { AreFlagsSettled parts.now index.now.places.items values.now waiting
         can.old.items }
     requires none { ways.old.items ≡ [] }
     ensures flags { OnOk result (AreFlags parts.now values.now can.new.items) }
-    ensures ways { OnOk result (AreWays parts.now ways.new.items) }
+    ensures ways { OnOk result (AreWaysOfSystem parts.now ways.new.items) }
     ensures turned { AreTurned can.old.items can.new.items ways.new.items }
 {
     let mut waiting = waiting;
@@ -110,7 +110,7 @@ fn look_at(
     requires settled { IsSettledBut parts.now index.now.places.items values.now place waiting.old
         can.old.items }
     requires behind { AreBehind parts.now index.now.places.items place ways.old.items }
-    ensures settled { OnOk result (AreSettled parts.now index.now.places.items values.now
+    ensures settled { OnOk result (AreFlagsSettled parts.now index.now.places.items values.now
         waiting.new can.new.items) }
     ensures later { OnOk result ((q : ℕ) → WaitsAt waiting.new q → place < q) }
     ensures looked { OnOk result (AreLooked parts.now index.now.places.items waiting.new

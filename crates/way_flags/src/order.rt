@@ -8,7 +8,7 @@ ghost use Rattle.gts_core.specs.Sound.{IsSound};
 ghost use Rattle.gts_core.specs.declared.system.Way.{Way as Ways};
 ghost use Rattle.gts_core.specs.View.{IsWayAt, way_bodies, part_of};
 ghost use Rattle.part_flags.specs.Parts.{are_set, flag_at};
-ghost use Rattle.way_flags.specs.Ways.{IsOrder, IsPlacing, are_placed, Keeps};
+ghost use Rattle.way_flags.specs.Ways.{IsWayOrder, IsPlacing, are_placed, KeepsMarks};
 
 use crate::flags::unset;
 use crate::sequence::parts_first;
@@ -30,7 +30,7 @@ pub(crate) struct Placing {
 /// before, so that the recursion stays shallow however deep synchronisations are nested.
 pub(crate) fn way_order(alloc: Global, parts: &GtsParts) -> Result<Vec<WayId>, Memory>
     requires { IsSound parts.now }
-    ensures { IfOk result (λ order. IsOrder parts.now order.items) }
+    ensures { IfOk result (λ order. IsWayOrder parts.now order.items) }
 {
     let most = parts.ways.len() as u32;
     let mut placing = Placing {
@@ -74,7 +74,7 @@ fn place(parts: &GtsParts, way: WayId, left: u32, placing: &mut Placing) -> Resu
     requires order { IsPlacing parts.now placing.old.order.items placing.old.placed.items }
     ensures order { OnOk result (IsPlacing parts.now placing.new.order.items
         placing.new.placed.items) }
-    ensures keeps { OnOk result (Keeps placing.old.placed.items placing.new.placed.items) }
+    ensures keeps { OnOk result (KeepsMarks placing.old.placed.items placing.new.placed.items) }
     ensures placed { OnOk result (flag_at placing.new.placed.items way.n ≡ true) }
 {
     let body = &parts.ways[way.n as usize].body;
@@ -97,7 +97,7 @@ fn place_parts(
     requires order { IsPlacing parts.now placing.old.order.items placing.old.placed.items }
     ensures order { OnOk result (IsPlacing parts.now placing.new.order.items
         placing.new.placed.items) }
-    ensures keeps { OnOk result (Keeps placing.old.placed.items placing.new.placed.items) }
+    ensures keeps { OnOk result (KeepsMarks placing.old.placed.items placing.new.placed.items) }
     ensures placed { OnOk result (are_set placing.new.placed.items ways.now ≡ true) }
 {
     for (_, way) in ways {
@@ -116,7 +116,7 @@ fn put(parts: &GtsParts, way: WayId, placing: &mut Placing) -> Result<(), Memory
         → are_placed placing.old.placed.items x.body ≡ true }
     ensures order { OnOk result (IsPlacing parts.now placing.new.order.items
         placing.new.placed.items) }
-    ensures keeps { OnOk result (Keeps placing.old.placed.items placing.new.placed.items) }
+    ensures keeps { OnOk result (KeepsMarks placing.old.placed.items placing.new.placed.items) }
     ensures placed { OnOk result (flag_at placing.new.placed.items way.n ≡ true) }
 {
     if is_set(&placing.placed, way) {

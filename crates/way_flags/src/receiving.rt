@@ -11,7 +11,7 @@ ghost use Rattle.flow_propagate.specs.NewValues.{AreNewValues, written};
 ghost use Rattle.part_flags.specs.Parts.{flag_at};
 ghost use Rattle.way_flags.specs.Ways.{AreFlags};
 ghost use Rattle.way_flags.specs.Receiving.{AddsOne, AreOneEach, AreToState, ClashOrAgree, IsLeastClash, IsLeastLeaving, LastOrOther};
-ghost use Rattle.way_flags.specs.Ready.{AreReceived, IsReady, IsReceiveFault};
+ghost use Rattle.way_flags.specs.Ready.{AreReceived, IsReadyWay, IsReceiveFault};
 
 use crate::effects::{Effect, effects, in_order};
 use crate::faults::ReceiveFault;
@@ -43,7 +43,7 @@ pub fn received(
         → AreReceived (net_of parts.now) values.now w r.items) }
     ensures state { IfOk result (λ r. IsState parts.now (written values.now r.items)) }
     ensures received { IfOk result (λ r. (w : Way ℕ) → IsWayAt parts.now way.n w
-        → IsReady (net_of parts.now) values.now w (written values.now r.items)) }
+        → IsReadyWay (net_of parts.now) values.now w (written values.now r.items)) }
     ensures fault { IfErr result (λ f. (w : Way ℕ) → IsWayAt parts.now way.n w
         → IsReceiveFault (net_of parts.now) values.now w f) }
 {

@@ -5,7 +5,7 @@ ghost use Rattle.std.specs.BTreeSet.{contains};
 ghost use Rattle.std.specs.Ordering.{nat_cmp};
 ghost use Rattle.gts_core.specs.Sound.{IsSound};
 ghost use Rattle.way_flags.specs.Taking.{AreTakers, takes_part};
-ghost use Rattle.way_flags.specs.Meeting.{AreMet, IsIn, Meets, MeetsParts};
+ghost use Rattle.way_flags.specs.Meeting.{AreMet, IsIn, MeetsWays, MeetsParts};
 
 use ar_base::{Memory, WayId};
 use gts_core::{GtsParts, WayBody};
@@ -76,7 +76,7 @@ fn takes_part(flags: &[bool], must: bool, way: WayId) -> bool
 // Meets a way, which changes nothing where it was met before.
 fn meet(way: WayId, met: &mut Met) -> Result<(), Memory>
     requires { AreMet met.old }
-    ensures { OnOk result (Meets (λ n. n ≡ way.n) met.old met.new) }
+    ensures { OnOk result (MeetsWays (λ n. n ≡ way.n) met.old met.new) }
 {
     if add_number(&mut met.numbers, way.n)? {
         met.ways.push(way)?;

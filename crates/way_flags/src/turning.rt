@@ -2,13 +2,13 @@
 
 ghost use Rattle.std.specs.Prelude.{◌≡◌, not, slice_set};
 ghost use Rattle.part_flags.specs.Parts.{flag_at};
-ghost use Rattle.way_flags.specs.Turning.{turned};
+ghost use Rattle.way_flags.specs.Turning.{flags_turned};
 
 use ar_base::WayId;
 
 /// Turns the flags of these ways round. Takes no memory.
 pub fn turn(flags: &mut Vec<bool>, ways: &[WayId])
-    ensures { flags.new.items ≡ turned flags.old.items ways.now }
+    ensures { flags.new.items ≡ flags_turned flags.old.items ways.now }
 {
     for way in ways {
         turn_one(flags, *way);

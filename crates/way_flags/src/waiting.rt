@@ -6,7 +6,7 @@ ghost use Rattle.ar_base.specs.Numbers.{VarId as Variables};
 ghost use Rattle.number_pairs.specs.Pairing.{IsPaired};
 ghost use Rattle.gts_core.specs.declared.system.GtsParts.{GtsParts as Parts};
 ghost use Rattle.way_flags.specs.Index.{IsWayIndex};
-ghost use Rattle.way_flags.specs.Renewing.{WaitsAt, IsPlaceOf};
+ghost use Rattle.way_flags.specs.Renewing.{WaitsAt, IsPlaceWith};
 
 use crate::index::WayIndex;
 use ar_base::{Memory, VarId, WayId};
@@ -39,7 +39,7 @@ fn add_place(waiting: &mut BTreeSet<usize>, place: usize) -> Result<(), Memory>
 fn add_ways(waiting: &mut BTreeSet<usize>, places: &[usize], ways: &[u32]) -> Result<(), Memory>
     requires { (n : ℕ) → IsOneOf ways.now n → n < length places.now }
     ensures { OnOk result ((q : ℕ) → WaitsAt waiting.new q
-        ↔ (WaitsAt waiting.old q ⊎ IsPlaceOf places.now (IsOneOf ways.now) q)) }
+        ↔ (WaitsAt waiting.old q ⊎ IsPlaceWith places.now (IsOneOf ways.now) q)) }
 {
     for way in ways {
         add_place(waiting, places[*way as usize])?;
@@ -55,7 +55,7 @@ pub(crate) fn first_waiting(
 ) -> Result<BTreeSet<usize>, Memory>
     requires { (p : Parts) × IsWayIndex p index.now }
     ensures { IfOk result (λ waiting. (q : ℕ) → WaitsAt waiting q
-        ↔ IsPlaceOf index.now.places.items
+        ↔ IsPlaceWith index.now.places.items
         (IsPaired index.now.guards.pairs.items (map (λ (x : Variables). x.n) changed.now)) q) }
 {
     let numbers = numbers_of(alloc, changed)?;
@@ -85,7 +85,7 @@ pub(crate) fn add_above(
 ) -> Result<(), Memory>
     requires { (p : Parts) × IsWayIndex p index.now }
     ensures { OnOk result ((q : ℕ) → WaitsAt waiting.new q
-        ↔ (WaitsAt waiting.old q ⊎ IsPlaceOf index.now.places.items
+        ↔ (WaitsAt waiting.old q ⊎ IsPlaceWith index.now.places.items
         (λ n. IsOneOf index.now.above.pairs.items (way.n, n)) q)) }
 {
     let ways = paired_by(alloc, &index.above, &[way.n])?;

@@ -16,7 +16,7 @@ use Rattle.typed_expr.specs.declared.expr.Expr.TheOpen as form
 use Rattle.typed_expr.specs.declared.expr.Expr.TheViews.{All, Any, Sum, Product, Least, Greatest, Count, outs-All, outs-Any, outs-Sum, outs-Product, outs-Least, outs-Greatest, outs-Count}
 use Rattle.typed_expr.proofs.Opened.{opened-constant}
 use Rattle.written_forms.specs.Operands.{RawLevel, level_of}
-use Rattle.written_forms.specs.Translating.{leaf_level, StandsFor, BecomesBy, All_become_by, Parts_become_by, Cases_become_by, Becomes, IsOpposite, IsNegative, IsComparison, IsChoice}
+use Rattle.written_forms.specs.Translating.{leaf_level, StandsFor, BecomesBy, All_become_by, Parts_become_by, Cases_become_by, Becomes, IsOpposite, IsNegative, IsComparisonOf, IsCaseChoice}
 use Rattle.written_forms.specs.Relations.{relation_of}
 use Rattle.written_forms.specs.Translating as t
 use Rattle.written_forms.specs.declared.naming.Leaf.{Leaf}
@@ -57,7 +57,7 @@ module _ (leaves : Path → Leaf) where
 
   pub compare_becomes : (r : RawExpr) (o : RawRelation) (q : Relation) (a b : Box RawExpr Global) (x y e : Expr VarId)
       → r.form ≡ written.Compare o a b → q ≡ relation_of o → BecomesBy leaves a.value x → BecomesBy leaves b.value y
-      → IsComparison q x y e → BecomesBy leaves r e
+      → IsComparisonOf q x y e → BecomesBy leaves r e
   compare_becomes r o q a b x y e i j h k is =
       as_one r e (raw.Compare o a b) (form.Compare (relation_of o) is.left is.right) (opened.form-compare _ _ _ _ i)
       (subst (λ (z : Relation). out-Expr VarId e ≡ form.Compare z is.left is.right) j is.is)
@@ -95,7 +95,7 @@ module _ (leaves : Path → Leaf) where
   pub choice_becomes : (r : RawExpr) (cs : Vec (RawExpr × RawExpr) Global) (a : Box RawExpr Global)
       (ds : Vec (Expr VarId × Expr VarId) Global) (d e : Expr VarId)
       → Cases_become_by leaves cs.items ds.items → BecomesBy leaves a.value d → r.form ≡ written.Choose cs a
-      → IsChoice ds d e → BecomesBy leaves r e
+      → IsCaseChoice ds d e → BecomesBy leaves r e
   choice_becomes r cs a ds d e h k i o = as_one r e (raw.Choose cs a) (form.Choose ds o.other)
       (opened.form-choice _ _ _ i) o.is
       (t.choice h (subst (λ (z : Expr VarId). BecomesBy leaves a.value z) (sym o.is_other) k))

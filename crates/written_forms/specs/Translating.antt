@@ -91,7 +91,7 @@ pub record IsNegative (a e : Expr VarId) : Type 0 where
   pub are : parts.items ≡ (false, a) ∷ []
 
 -- the expression is the comparison of these two
-pub record IsComparison (q : Relation) (a b e : Expr VarId) : Type 0 where
+pub record IsComparisonOf (q : Relation) (a b e : Expr VarId) : Type 0 where
   pub left : Box (Expr VarId) Global
   pub right : Box (Expr VarId) Global
   pub is : out-Expr VarId e ≡ Compare q left right
@@ -99,7 +99,7 @@ pub record IsComparison (q : Relation) (a b e : Expr VarId) : Type 0 where
   pub is_right : right.value ≡ b
 
 -- the expression is the choice of these cases, with this one where no test holds
-pub record IsChoice (cases : Vec (Expr VarId × Expr VarId) Global) (a e : Expr VarId) : Type 0 where
+pub record IsCaseChoice (cases : Vec (Expr VarId × Expr VarId) Global) (a e : Expr VarId) : Type 0 where
   pub other : Box (Expr VarId) Global
   pub is : out-Expr VarId e ≡ Choose cases other
   pub is_other : other.value ≡ a

@@ -3,17 +3,17 @@ use Rattle.std.proofs.Common.{◌≡◌, ℕ, List, [], ◌∷◌, ◌++◌, map
 use Rattle.std.proofs.lemmas.List.{map-append}
 use Rattle.zdd_families.specs.Families.{Family}
 use Rattle.zdd_families.specs.FamiliesInside.{node}
-use Rattle.zdd_families.specs.Behind.{behind}
+use Rattle.zdd_families.specs.Behind.{behind_events}
 
 -- the sets of a node behind p: those of its upper half behind p and the event, then those of its lower half behind p
-pub behind_node : (p : List ℕ) (v : ℕ) (L H : Family) → behind p (node v L H) ≡ behind (p ++ v ∷ []) H ++ behind p L
-behind_node p v L H = map-append (λ t. p ++ t) (map (λ t. v ∷ t) H) L ∙ ap (λ z. z ++ behind p L) (each H)
+pub behind_node : (p : List ℕ) (v : ℕ) (L H : Family) → behind_events p (node v L H) ≡ behind_events (p ++ v ∷ []) H ++ behind_events p L
+behind_node p v L H = map-append (λ t. p ++ t) (map (λ t. v ∷ t) H) L ∙ ap (λ z. z ++ behind_events p L) (each H)
   where
-    each : (H : Family) → behind p (map (λ t. v ∷ t) H) ≡ behind (p ++ v ∷ []) H
+    each : (H : Family) → behind_events p (map (λ t. v ∷ t) H) ≡ behind_events (p ++ v ∷ []) H
     each [] = refl
     each (t ∷ H) = ap₂ (λ a b. a ∷ b) (sym (append_assoc p (v ∷ []) t)) (each H)
 
 -- behind nothing each set is itself
-pub behind_none : (f : Family) → behind [] f ≡ f
+pub behind_none : (f : Family) → behind_events [] f ≡ f
 behind_none [] = refl
 behind_none (t ∷ f) = ap (λ z. t ∷ z) (behind_none f)

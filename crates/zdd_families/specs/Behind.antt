@@ -3,5 +3,5 @@ use Rattle.std.specs.Prelude.{ℕ, List, ◌++◌, map}
 use Rattle.zdd_families.specs.Families.{Family}
 
 -- the sets, each behind some events that were taken before
-abbrev pub behind : List ℕ → Family → Family
-behind p f = map (λ t. p ++ t) f
+abbrev pub behind_events : List ℕ → Family → Family
+behind_events p f = map (λ t. p ++ t) f

@@ -9,8 +9,8 @@ use Rattle.ar_base.proofs.Standing.{stands_some}
 use Rattle.zdd_families.specs.Families.{Family}
 use Rattle.zdd_families.specs.FamiliesInside.{node}
 use Rattle.zdd_families.specs.SectionsInside.{IsMade}
-use Rattle.zdd_nodes.specs.Nodes.{NodeId, Stored, at, family, IsNumber, IsNode, IsSoundStore, IsFullFor, Draws, HasNoRoom, Makes}
-use Rattle.zdd_nodes.specs.Nodes.Makes.{added}
+use Rattle.zdd_nodes.specs.Nodes.{NodeId, Stored, at, family, IsFamilyNumber, IsNode, IsSoundStore, IsFullFor, Draws, HasNoRoom, MakesFamily}
+use Rattle.zdd_nodes.specs.Nodes.MakesFamily.{added}
 use Rattle.zdd_nodes.specs.Kept.{families_of, node_eq, IsStore}
 use Rattle.zdd_nodes.specs.declared.Node.{Node}
 use Rattle.zdd_nodes.proofs.Canonical.{node_some, node_not_unit}
@@ -48,11 +48,11 @@ pub long_seen : (nodes : List Node) (limit : ℕ) (v : Stored) → seen nodes li
 long_seen nodes limit v e = subst (λ (v : Stored). length nodes ≡ length v.families) e (sym (length-families nodes))
 
 pub split_at : (nodes found : List Node) (index : List (Node × NodeId)) (limit : ℕ) (v : Stored) (k : ℕ) (d : Node)
-    → found ≡ nodes → seen nodes limit ≡ v → IsStore nodes index limit → IsNumber v k → 2 ≤ k
+    → found ≡ nodes → seen nodes limit ≡ v → IsStore nodes index limit → IsFamilyNumber v k → 2 ≤ k
     → (let n = get_or found (k - 2) d in IsNode v.families k n.event.n n.lo.n n.hi.n)
 split_at nodes found index limit v k d same e s h two =
     subst (λ (ns : List Node). let n = get_or ns (k - 2) d in IsNode v.families k n.event.n n.lo.n n.hi.n) (sym same)
-    (subst (λ (v : Stored). IsNumber v k → (let n = get_or nodes (k - 2) d in IsNode v.families k n.event.n n.lo.n n.hi.n)) e (λ h.
+    (subst (λ (v : Stored). IsFamilyNumber v k → (let n = get_or nodes (k - 2) d in IsNode v.families k n.event.n n.lo.n n.hi.n)) e (λ h.
     let long = length-families nodes in
     let kk : k - 2 + 2 ≡ k = omega arith in
     let n = get_or nodes (k - 2) d in
@@ -62,9 +62,9 @@ split_at nodes found index limit v k d same e s h two =
 -- ---- a family that has a number
 -- the number n stands for the family
 abbrev pub Numbers : Stored → ℕ → Family → Type 0
-Numbers v n f = IsNumber v n × (family v n ≡ f)
+Numbers v n f = IsFamilyNumber v n × (family v n ≡ f)
 
-pub number_of_lo : (v : Stored) (n : Node) → IsNumber v n.lo.n → n.hi.n ≡ 0 → Numbers v n.lo.n (asked v n)
+pub number_of_lo : (v : Stored) (n : Node) → IsFamilyNumber v n.lo.n → n.hi.n ≡ 0 → Numbers v n.lo.n (asked v n)
 number_of_lo v n h z = (h, sym (ap (λ k. node n.event.n (family v n.lo.n) (family v k)) z))
 
 pub number_found : (nodes : List Node) (index : List (Node × NodeId)) (limit : ℕ) (v : Stored) (n : Node) (m : NodeId)
@@ -165,16 +165,16 @@ module _ (nodes nodes2 : List Node) (index index2 : List (Node × NodeId)) (limi
   number_seen : number.n ≡ length v.families + 2
   number_seen = number_is ∙ ap (λ k. k + 2) (long_seen nodes limit v e)
 
-  pub makes_new : Makes (asked v n) v (seen nodes2 limit) number.n
+  pub makes_new : MakesFamily (asked v n) v (seen nodes2 limit) number.n
   makes_new =
       let c2 : IsCall (families_of nodes) n = subst (λ (w : Stored). IsCall w.families n) (sym e) c in
-      let new : (k : ℕ) → IsNumber v k → family v k ≢ asked v n =
-      subst (λ (w : Stored). (k : ℕ) → IsNumber w k → family w k ≢ asked w n) e
+      let new : (k : ℕ) → IsFamilyNumber v k → family v k ≢ asked v n =
+      subst (λ (w : Stored). (k : ℕ) → IsFamilyNumber w k → family w k ≢ asked w n) e
       (is_missing nodes index limit n s c2 absent) in
-      let m : Makes (asked v n) v (record { families = v.families ++ asked v n ∷ []; limit = v.limit })
+      let m : MakesFamily (asked v n) v (record { families = v.families ++ asked v n ∷ []; limit = v.limit })
       (length v.families + 2) = added new in
-      subst (λ w. Makes (asked v n) v w number.n) (sym seen2)
-      (subst (λ k. Makes (asked v n) v (record { families = v.families ++ asked v n ∷ []; limit = v.limit }) k)
+      subst (λ w. MakesFamily (asked v n) v w number.n) (sym seen2)
+      (subst (λ k. MakesFamily (asked v n) v (record { families = v.families ++ asked v n ∷ []; limit = v.limit }) k)
       (sym number_seen) m)
 
   pub draws_new : Draws (IsMade (asked v n)) (asked v n) v (seen nodes2 limit) (Ok number)

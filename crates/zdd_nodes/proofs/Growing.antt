@@ -5,7 +5,7 @@ use Rattle.zdd_families.specs.Families.{Family}
 use Rattle.zdd_families.specs.Sections.{IsCounted}
 use Rattle.zdd_families.specs.SectionsInside.{IsMade}
 use Rattle.zdd_families.proofs.Sections.{IsCounted-self}
-use Rattle.zdd_nodes.specs.Nodes.{NodeId, Stored, at, family, IsNumber, Grows, IsFullFor, Draws}
+use Rattle.zdd_nodes.specs.Nodes.{NodeId, Stored, at, family, IsFamilyNumber, Grows, IsFullFor, Draws}
 use Rattle.zdd_nodes.specs.declared.NodeFault.{NodeFault}
 use Rattle.zdd_nodes.specs.declared.NodeFault.TheVariants.{Full}
 use Rattle.zdd_nodes.proofs.Lists.{at-append}
@@ -30,13 +30,13 @@ Grows-weaker P Q s t w a = record {
 }
 
 -- a number keeps its family
-pub kept : (P : Family → Type 0) (s t : Stored) (n : ℕ) → Grows P s t → IsNumber s n → family t n ≡ family s n
+pub kept : (P : Family → Type 0) (s t : Stored) (n : ℕ) → Grows P s t → IsFamilyNumber s n → family t n ≡ family s n
 kept P s t n a h = ap (λ x. at x n) a.families ∙ at-append s.families a.added n h
 
 pub longer : (P : Family → Type 0) (s t : Stored) → Grows P s t → length s.families ≤ length t.families
 longer P s t a = omega (arith, ap length a.families, length-append s.families a.added)
 
-pub still : (P : Family → Type 0) (s t : Stored) (n : ℕ) → Grows P s t → IsNumber s n → IsNumber t n
+pub still : (P : Family → Type 0) (s t : Stored) (n : ℕ) → Grows P s t → IsFamilyNumber s n → IsFamilyNumber t n
 still P s t n a h = omega (arith, h, longer P s t a)
 
 pub full_weaker : (P Q : Family → Type 0) (s : Stored) → ((h : Family) → P h → Q h) → IsFullFor P s → IsFullFor Q s
@@ -48,7 +48,7 @@ full_weaker P Q s w f = record {
   full = f.full;
 }
 
-pub Draws-stays : (P : Family → Type 0) (made : Family) (v : Stored) (n : NodeId) → IsNumber v n.n → family v n.n ≡ made
+pub Draws-stays : (P : Family → Type 0) (made : Family) (v : Stored) (n : NodeId) → IsFamilyNumber v n.n → family v n.n ≡ made
     → Draws P made v v (Ok n)
 Draws-stays P made v n h e = record { grows = Grows-none P v; ok = (h, e); full = λ x. cc }
 

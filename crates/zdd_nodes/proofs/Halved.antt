@@ -3,7 +3,7 @@ use Rattle.std.proofs.Common.{◌≡◌, ℕ, Result, Ok, sym, ap₂, ◌∙◌,
 use Rattle.zdd_families.specs.Families.{Family}
 use Rattle.zdd_families.specs.FamiliesInside.{node, IsAbove}
 use Rattle.zdd_families.specs.SectionsInside.{IsMade}
-use Rattle.zdd_nodes.specs.Nodes.{NodeId, Stored, family, IsNumber, Grows, Draws}
+use Rattle.zdd_nodes.specs.Nodes.{NodeId, Stored, family, IsFamilyNumber, Grows, Draws}
 use Rattle.zdd_nodes.specs.declared.NodeFault.{NodeFault}
 use Rattle.zdd_nodes.proofs.Growing.{Grows-then, kept, still, Draws-weaker, Draws-after}
 
@@ -20,7 +20,7 @@ module _ (P : Family → Type 0) (made : Family) (v : ℕ) (L H : Family) (halve
   lo_is : family s2 lo.n ≡ L
   lo_is = kept P s1 s2 lo.n dh.grows dl.ok.0 ∙ dl.ok.1
 
-  pub lo_in : IsNumber s2 lo.n
+  pub lo_in : IsFamilyNumber s2 lo.n
   lo_in = still P s1 s2 lo.n dh.grows dl.ok.0
 
   pub lo_above : IsAbove v (family s2 lo.n)
@@ -36,7 +36,7 @@ module _ (P : Family → Type 0) (made : Family) (v : ℕ) (L H : Family) (halve
       (Draws-weaker (IsMade made) P made s2 s3 r halved.whole (subst (λ x. Draws (IsMade x) x s2 s3 r) e d))
 
 -- a fact of families of numbers that were there before
-pub moved : (P : Family → Type 0) (s t : Stored) (a b : ℕ) → Grows P s t → IsNumber s a → IsNumber s b
+pub moved : (P : Family → Type 0) (s t : Stored) (a b : ℕ) → Grows P s t → IsFamilyNumber s a → IsFamilyNumber s b
     → (C : Family → Family → Type 0) → C (family t a) (family t b) → C (family s a) (family s b)
 moved P s t a b g p q C c = subst (λ x. C x (family s b)) (kept P s t a g p)
     (subst (λ y. C (family t a) y) (kept P s t b g q) c)

@@ -8,7 +8,7 @@ use Rattle.ar_base.specs.Lists.{Stands, IsOneOf, AreDifferent}
 use Rattle.ar_base.proofs.Standing.{stands_none, stands_within, stands_one, one_here, one_rest}
 use Rattle.zdd_families.specs.Families.{Family}
 use Rattle.zdd_families.specs.Sections.{IsMoreThan}
-use Rattle.zdd_nodes.specs.Nodes.{NodeId, Stored, family, IsNumber, Grows, Draws, IsFullFor, IsStored}
+use Rattle.zdd_nodes.specs.Nodes.{NodeId, Stored, family, IsFamilyNumber, Grows, Draws, IsFullFor, IsStored}
 use Rattle.zdd_nodes.specs.declared.NodeFault.{NodeFault}
 use Rattle.zdd_nodes.specs.declared.NodeFault.TheVariants.{Full}
 use Rattle.zdd_nodes.proofs.Lists.{AreDifferent-push}
@@ -87,7 +87,7 @@ module _ {A : Type 0} where
           omega (arith, two))
 
 -- the family of a node's number is one of the families
-stored_one : (s : Stored) (n : ℕ) → 2 ≤ n → IsNumber s n → IsOneOf s.families (family s n)
+stored_one : (s : Stored) (n : ℕ) → 2 ≤ n → IsFamilyNumber s n → IsOneOf s.families (family s n)
 stored_one s zero two h = absurd (omega (arith, two))
 stored_one s (suc zero) two h = absurd (omega (arith, two))
 stored_one s (suc (suc k)) two h = one_here s.families k (family s (suc (suc k)))

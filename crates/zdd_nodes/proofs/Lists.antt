@@ -7,7 +7,7 @@ use Rattle.ar_base.specs.Lists.{AreDifferent}
 use Rattle.zdd_families.specs.Families.{Family}
 use Rattle.zdd_families.specs.FamiliesInside.{IsAbove}
 use Rattle.zdd_families.proofs.Laws.{IsAbove-node}
-use Rattle.zdd_nodes.specs.Nodes.{all_of, at, IsNode}
+use Rattle.zdd_nodes.specs.Nodes.{all_families, at, IsNode}
 
 pub slice_get-push_cases : {A : Type 0} (xs : List A) (x : A) (k : ℕ) (m : A) → slice_get (xs ++ x ∷ []) k ≡ Some m
     → (slice_get xs k ≡ Some m) ⊎ ((k ≡ length xs) × (m ≡ x))
@@ -37,29 +37,29 @@ AreDifferent-push xs x d lacks = record {
       (slice_get-push_cases xs x m a p);
 }
 
-pub in_all : (fs : List Family) (n : ℕ) → n < length fs + 2 → n < length (all_of fs)
+pub in_all : (fs : List Family) (n : ℕ) → n < length fs + 2 → n < length (all_families fs)
 in_all fs n h = omega (arith, h)
 
 pub at-append : (fs gs : List Family) (n : ℕ) → n < length fs + 2 → at (fs ++ gs) n ≡ at fs n
-at-append fs gs n h = get_or-append (all_of fs) gs [] n (in_all fs n h)
+at-append fs gs n h = get_or-append (all_families fs) gs [] n (in_all fs n h)
 
 pub at-seam : (fs : List Family) (f : Family) → at (fs ++ f ∷ []) (length fs + 2) ≡ f
 at-seam fs f =
-    let e : length fs + 2 ≡ length (all_of fs) = omega arith in
-    ap (at (fs ++ f ∷ [])) e ∙ get_or-append_seam (all_of fs) f [] []
+    let e : length fs + 2 ≡ length (all_families fs) = omega arith in
+    ap (at (fs ++ f ∷ [])) e ∙ get_or-append_seam (all_families fs) f [] []
 
-pub stands : (fs : List Family) (n : ℕ) → n < length fs + 2 → slice_get (all_of fs) n ≡ Some (at fs n)
-stands fs n h = slice_get-get_or (all_of fs) n [] (in_all fs n h)
+pub stands : (fs : List Family) (n : ℕ) → n < length fs + 2 → slice_get (all_families fs) n ≡ Some (at fs n)
+stands fs n h = slice_get-get_or (all_families fs) n [] (in_all fs n h)
 
-pub same_number : (fs : List Family) → AreDifferent (all_of fs) → (i j : ℕ) → i < length fs + 2 → j < length fs + 2
+pub same_number : (fs : List Family) → AreDifferent (all_families fs) → (i j : ℕ) → i < length fs + 2 → j < length fs + 2
     → at fs i ≡ at fs j → i ≡ j
 same_number fs d i j p q e = d.one i j (at fs j) (stands fs i p ∙ ap Some e) (stands fs j q)
 
-pub nodes_different : (fs : List Family) → AreDifferent (all_of fs) → AreDifferent fs
+pub nodes_different : (fs : List Family) → AreDifferent (all_families fs) → AreDifferent fs
 nodes_different fs d = record { one = λ m n a p q. let e : suc (suc m) ≡ suc (suc n) = d.one (suc (suc m)) (suc (suc n)) a p q in omega (arith, e) }
 
 -- a number over 0 has sets
-pub some_sets : (fs : List Family) → AreDifferent (all_of fs) → (n : ℕ) → 0 < n → n < length fs + 2 → at fs n ≢ []
+pub some_sets : (fs : List Family) → AreDifferent (all_families fs) → (n : ℕ) → 0 < n → n < length fs + 2 → at fs n ≢ []
 some_sets fs d n p q = λ e. let z : n ≡ 0 = same_number fs d n 0 q (omega arith) e in omega (arith, z)
 
 -- a node lies above every number below its event

@@ -4,7 +4,7 @@ use Rattle.zdd_families.specs.Families.{Family}
 use Rattle.zdd_families.specs.Sections.{IsCounted}
 use Rattle.zdd_families.proofs.Sections.{counted_nil}
 use Rattle.zdd_families.proofs.Halves.{counted_halves, counted_unit}
-use Rattle.zdd_nodes.specs.Nodes.{Stored, family, IsNumber, IsSoundStore, IsStored}
+use Rattle.zdd_nodes.specs.Nodes.{Stored, family, IsFamilyNumber, IsSoundStore, IsStored}
 
 module _ (s : Stored) (sound : IsSoundStore s) where
   -- 0 and 1 have no counted sections
@@ -13,7 +13,7 @@ module _ (s : Stored) (sound : IsSoundStore s) where
   is_node (suc zero) h c = absurd (counted_unit h c)
   is_node (suc (suc n)) h c = omega arith
 
-  stored_below : (bound n : ℕ) → n < bound → IsNumber s n → (h : Family) → IsCounted (family s n) h → IsStored h s
+  stored_below : (bound n : ℕ) → n < bound → IsFamilyNumber s n → (h : Family) → IsCounted (family s n) h → IsStored h s
   stored_below zero n l inside h c = absurd (omega (arith, l))
   stored_below (suc bound) n l inside h c =
       let two = is_node n h c in

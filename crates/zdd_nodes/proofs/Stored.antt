@@ -8,7 +8,7 @@ use Rattle.ar_base.specs.declared.numbers.Id.{Id}
 use Rattle.ar_base.proofs.Comparing.{id_from}
 use Rattle.zdd_families.specs.Families.{Family}
 use Rattle.zdd_families.specs.FamiliesInside.{node, IsAbove, IsFamily}
-use Rattle.zdd_nodes.specs.Nodes.{NodeId, all_of, at, IsNode}
+use Rattle.zdd_nodes.specs.Nodes.{NodeId, all_families, at, IsNode}
 use Rattle.zdd_nodes.specs.Kept.{grown, families_of, node_eq, IsStore}
 use Rattle.zdd_nodes.specs.declared.Node.{Node}
 use Rattle.zdd_nodes.proofs.Order.{IsFamily-node, IsFamily-nil, IsFamily-unit}
@@ -40,11 +40,11 @@ families-new zero h = IsFamily-nil
 families-new (suc zero) h = IsFamily-unit
 families-new (suc (suc k)) h = absurd (omega (arith, h))
 
-different-new : AreDifferent (all_of (families_of []))
+different-new : AreDifferent (all_families (families_of []))
 unfolding families_of
 different-new = record { one = two }
   where
-    two : (m n : ℕ) (a : Family) → slice_get (all_of []) m ≡ Some a → slice_get (all_of []) n ≡ Some a → m ≡ n
+    two : (m n : ℕ) (a : Family) → slice_get (all_families []) m ≡ Some a → slice_get (all_families []) n ≡ Some a → m ≡ n
     two zero zero a p q = refl
     two zero (suc zero) a p q = let e : ⊥ = cc in absurd e
     two zero (suc (suc n)) a p q = let e : ⊥ = cc in absurd e
@@ -197,10 +197,10 @@ module _ (nodes : List Node) (index : List (Node × NodeId)) (limit : ℕ) (n : 
         (s.families n.lo.n (omega (arith, c.lo_in))) (s.families n.hi.n (omega (arith, c.hi_in)))))
         split
 
-    different_after : AreDifferent (all_of (fs ++ made fs n ∷ []))
-    different_after = AreDifferent-push (all_of fs) (made fs n) s.different
-        (λ k h. is_missing k (omega (arith, slice_get_within (all_of fs) k (made fs n) h))
-        (get_or_from_slice_get (all_of fs) k (made fs n) [] h))
+    different_after : AreDifferent (all_families (fs ++ made fs n ∷ []))
+    different_after = AreDifferent-push (all_families fs) (made fs n) s.different
+        (λ k h. is_missing k (omega (arith, slice_get_within (all_families fs) k (made fs n) h))
+        (get_or_from_slice_get (all_families fs) k (made fs n) [] h))
 
     pub IsStore-push : IsStore (nodes ++ n ∷ []) index2 limit
     IsStore-push =
@@ -212,7 +212,7 @@ module _ (nodes : List Node) (index : List (Node × NodeId)) (limit : ℕ) (n : 
               (each_new k m)
               (slice_get-push_cases nodes n k m h));
           families = λ k h. subst (λ gs. IsFamily (at gs k)) (sym e) (families_after k h);
-          different = subst (λ gs. AreDifferent (all_of gs)) (sym e) different_after;
+          different = subst (λ gs. AreDifferent (all_families gs)) (sym e) different_after;
           found = λ k m h. found_after k m h (node_eq n k) refl;
           listed = λ k m h. ⊎_elim (λ l. listed_old k m l (node_eq n m) refl) (listed_new k m)
               (slice_get-push_cases nodes n k m h);

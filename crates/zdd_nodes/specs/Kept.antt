@@ -4,7 +4,7 @@ use Rattle.std.specs.Map.{lookup}
 use Rattle.ar_base.specs.Lists.{AreDifferent}
 use Rattle.zdd_families.specs.Families.{Family}
 use Rattle.zdd_families.specs.FamiliesInside.{node, IsFamily}
-use Rattle.zdd_nodes.specs.Nodes.{NodeId, all_of, at, IsNode}
+use Rattle.zdd_nodes.specs.Nodes.{NodeId, all_families, at, IsNode}
 use Rattle.zdd_nodes.specs.declared.Node.{Node}
 
 -- the families of the nodes, where the nodes before them have the families fs
@@ -27,7 +27,7 @@ pub record IsStore (nodes : List Node) (index : List (Node × NodeId)) (limit : 
   pub each : (k : ℕ) (n : Node) → slice_get nodes k ≡ Some n
       → IsNode (families_of nodes) (k + 2) n.event.n n.lo.n n.hi.n
   pub families : (k : ℕ) → k < length nodes + 2 → IsFamily (at (families_of nodes) k)
-  pub different : AreDifferent (all_of (families_of nodes))
+  pub different : AreDifferent (all_families (families_of nodes))
   pub found : (k : Node) (n : NodeId) → lookup (node_eq k) index ≡ Some n
       → (2 ≤ n.n) × (slice_get nodes (n.n - 2) ≡ Some k)
   pub listed : (k : ℕ) (n : Node) → slice_get nodes k ≡ Some n

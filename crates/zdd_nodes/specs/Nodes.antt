@@ -20,20 +20,20 @@ pub record Stored : Type 0 where
 
 -- the families of all numbers: 0 stands for the empty family, 1 for the family of the empty set, and the nodes are
 -- numbered from 2
-abbrev pub all_of : List Family → List Family
-all_of fs = [] ∷ ([] ∷ []) ∷ fs
+abbrev pub all_families : List Family → List Family
+all_families fs = [] ∷ ([] ∷ []) ∷ fs
 
 -- the family of a number, where the nodes have the families fs
 abbrev pub at : List Family → ℕ → Family
-at fs n = slice_index_or (all_of fs) n []
+at fs n = slice_index_or (all_families fs) n []
 
 -- the family of a number of the store
 abbrev pub family : Stored → ℕ → Family
 family s n = at s.families n
 
 -- n is 0, 1 or the number of a node of the store
-abbrev pub IsNumber : Stored → ℕ → Type 0
-IsNumber s n = n < length s.families + 2
+abbrev pub IsFamilyNumber : Stored → ℕ → Type 0
+IsFamilyNumber s n = n < length s.families + 2
 
 -- a node's number, event and halves: its sets with the event come from the family of hi, which is not empty, those
 -- without it
@@ -57,9 +57,9 @@ pub record HasHalves (fs : List Family) (n : ℕ) : Type 0 where
 -- whose
 -- halves are stored, and there are at most limit nodes
 pub record IsSoundStore (s : Stored) : Type 0 where
-  pub different : AreDifferent (all_of s.families)
-  pub families : (n : ℕ) → IsNumber s n → IsFamily (family s n)
-  pub nodes : (n : ℕ) → 2 ≤ n → IsNumber s n → HasHalves s.families n
+  pub different : AreDifferent (all_families s.families)
+  pub families : (n : ℕ) → IsFamilyNumber s n → IsFamily (family s n)
+  pub nodes : (n : ℕ) → 2 ≤ n → IsFamilyNumber s n → HasHalves s.families n
   pub within : length s.families ≤ s.limit
 
 -- nothing has changed but that the nodes of these families came last, and of each of them P holds
@@ -82,20 +82,20 @@ pub record IsFullFor (P : Family → Type 0) (s : Stored) : Type 0 where
 -- has its limit of nodes and lacks another such family
 pub record Draws (P : Family → Type 0) (made : Family) (old new : Stored) (r : Result NodeId NodeFault) : Type 0 where
   pub grows : Grows P old new
-  pub ok : IfOk r (λ n. IsNumber new n.n × (family new n.n ≡ made))
+  pub ok : IfOk r (λ n. IsFamilyNumber new n.n × (family new n.n ≡ made))
   pub full : r ≡ Err Full → IsFullFor P new
 
 -- the family of no number is the made one, and the store has its limit of nodes
 pub record HasNoRoom (made : Family) (s : Stored) : Type 0 where
-  pub is_new : (n : ℕ) → IsNumber s n → family s n ≢ made
+  pub is_new : (n : ℕ) → IsFamilyNumber s n → family s n ≢ made
   pub full : length s.families ≡ s.limit
 
 -- the made family has this number: it had it before and nothing changed, or its node came last
-pub data Makes (made : Family) (old : Stored) : Stored → ℕ → Type 0 where
-  known : (n : ℕ) → IsNumber old n → family old n ≡ made → Makes made old old n
-  added : ((n : ℕ) → IsNumber old n → family old n ≢ made)
-      → Makes made old (record { families = old.families ++ made ∷ []; limit = old.limit }) (length old.families + 2)
+pub data MakesFamily (made : Family) (old : Stored) : Stored → ℕ → Type 0 where
+  known : (n : ℕ) → IsFamilyNumber old n → family old n ≡ made → MakesFamily made old old n
+  added : ((n : ℕ) → IsFamilyNumber old n → family old n ≢ made)
+      → MakesFamily made old (record { families = old.families ++ made ∷ []; limit = old.limit }) (length old.families + 2)
 
 -- h is the family of a node of the store
 abbrev pub IsStored : Family → Stored → Type 0
-IsStored h s = (n : ℕ) × (2 ≤ n) × IsNumber s n × (family s n ≡ h)
+IsStored h s = (n : ℕ) × (2 ≤ n) × IsFamilyNumber s n × (family s n ≡ h)

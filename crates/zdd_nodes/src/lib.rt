@@ -8,7 +8,7 @@
 ghost use Rattle.std.specs.Prelude.{◌≡◌, ◌+◌, ◌<◌, ◌≤◌, ◌↔◌, [], length, IfOk, OnErr, MatchOption};
 ghost use Rattle.zdd_families.specs.FamiliesInside.{node, IsAbove};
 ghost use Rattle.zdd_families.specs.SectionsInside.{IsMade};
-ghost use Rattle.zdd_nodes.specs.Nodes.{family, IsNumber, IsNode, IsSoundStore, Draws, HasNoRoom, Makes};
+ghost use Rattle.zdd_nodes.specs.Nodes.{family, IsFamilyNumber, IsNode, IsSoundStore, Draws, HasNoRoom, MakesFamily};
 ghost use Rattle.zdd_nodes.specs.Room.{SectionsAreStored, EachTakesANode};
 
 use ar_base::{EventId, Id, Memory};
@@ -108,7 +108,7 @@ impl Store {
     /// The event of a node, its sets without the event, and its sets with the event, which is taken off. None exactly
     /// for 0 and 1. Takes no memory.
     pub fn split(&self, node: NodeId) -> Option<(EventId, NodeId, NodeId)>
-        requires { IsNumber self.now node.n }
+        requires { IsFamilyNumber self.now node.n }
         ensures halves { MatchOption result (node.n < 2)
             (λ t. IsNode self.now.families node.n t.0.n t.1.n t.2.n) }
         ensures sound { IsSoundStore self.now }
@@ -125,12 +125,12 @@ impl Store {
     /// below all events of both. Where `hi` is 0 it is `lo`. Full comes exactly where the family has no number
     /// and the store has its limit of nodes. After a refusal the store is as it was.
     pub fn node(&mut self, event: EventId, lo: NodeId, hi: NodeId) -> Result<NodeId, NodeFault>
-        requires lo_in { IsNumber self.old lo.n }
-        requires hi_in { IsNumber self.old hi.n }
+        requires lo_in { IsFamilyNumber self.old lo.n }
+        requires hi_in { IsFamilyNumber self.old hi.n }
         requires lo_above { IsAbove event.n (family self.old lo.n) }
         requires hi_above { IsAbove event.n (family self.old hi.n) }
         ensures made { IfOk result (λ n.
-            Makes (node event.n (family self.old lo.n) (family self.old hi.n)) self.old self.new
+            MakesFamily (node event.n (family self.old lo.n) (family self.old hi.n)) self.old self.new
             n.n) }
         ensures full { result ≡ Err NodeFault.Full
             ↔ HasNoRoom (node event.n (family self.old lo.n) (family self.old hi.n)) self.old }

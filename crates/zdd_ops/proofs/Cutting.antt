@@ -5,7 +5,7 @@ use Rattle.zdd_families.specs.FamiliesInside.{node, IsAbove}
 use Rattle.zdd_nodes.specs.Nodes.{NodeId, at, IsNode}
 use Rattle.ar_base.specs.declared.numbers.Id.{Id}
 use Rattle.ar_base.specs.declared.numbers.EventKind.{EventKind}
-use Rattle.zdd_ops.specs.Cuts.{IsCut}
+use Rattle.zdd_ops.specs.Cuts.{AreCofactors}
 
 module _ (fs : List Family) (f g none : NodeId) (none_is : none.n ≡ 0) where
   as_node : (v n : ℕ) → at fs n ≡ node v (at fs n) (at fs none.n)
@@ -16,7 +16,7 @@ module _ (fs : List Family) (f g none : NodeId) (none_is : none.n ≡ 0) where
 
   pub cut_left : (event : Id EventKind) (lo hi : NodeId) → IsNode fs f.n event.n lo.n hi.n → f.n < length fs + 2
       → g.n < length fs + 2 → IsAbove event.n (at fs g.n)
-      → IsCut fs f.n g.n (record { event = event; f0 = lo; f1 = hi; g0 = g; g1 = none })
+      → AreCofactors fs f.n g.n (record { event = event; f0 = lo; f1 = hi; g0 = g; g1 = none })
   cut_left event lo hi i h l a = record {
     f_is = i.is;
     g_is = as_node event.n g.n;
@@ -35,7 +35,7 @@ module _ (fs : List Family) (f g none : NodeId) (none_is : none.n ≡ 0) where
 
   pub cut_right : (event : Id EventKind) (lo hi : NodeId) → IsNode fs g.n event.n lo.n hi.n → f.n < length fs + 2
       → g.n < length fs + 2 → IsAbove event.n (at fs f.n)
-      → IsCut fs f.n g.n (record { event = event; f0 = f; f1 = none; g0 = lo; g1 = hi })
+      → AreCofactors fs f.n g.n (record { event = event; f0 = f; f1 = none; g0 = lo; g1 = hi })
   cut_right event lo hi i h l a = record {
     f_is = as_node event.n f.n;
     g_is = i.is;

@@ -6,7 +6,7 @@ use Rattle.zdd_families.specs.Sections.{IsCounted}
 use Rattle.zdd_families.specs.SectionsInside.{IsMade}
 use Rattle.zdd_families.proofs.Laws.{having-above, having-here, having-node, IsAbove-having, IsAbove-node}
 use Rattle.zdd_families.proofs.Sections.{IsCounted-lower, IsCounted-upper}
-use Rattle.zdd_nodes.specs.Nodes.{NodeId, Stored, at, family, IsNumber, IsNode, Grows, Draws}
+use Rattle.zdd_nodes.specs.Nodes.{NodeId, Stored, at, family, IsFamilyNumber, IsNode, Grows, Draws}
 use Rattle.zdd_nodes.specs.declared.NodeFault.{NodeFault}
 use Rattle.zdd_nodes.proofs.Growing.{Draws-weaker, counted_made}
 use Rattle.zdd_nodes.proofs.Halved.{Halved, moved}
@@ -17,7 +17,7 @@ having_small fs zero e h = refl
 having_small fs (suc zero) e h = refl
 having_small fs (suc (suc f)) e h = absurd (omega (arith, h))
 
-module _ (s0 : Stored) (f e v lo hi : ℕ) (i : IsNode s0.families f v lo hi) (f_in : IsNumber s0 f) where
+module _ (s0 : Stored) (f e v lo hi : ℕ) (i : IsNode s0.families f v lo hi) (f_in : IsFamilyNumber s0 f) where
   abbrev fam : ℕ → Family
   fam n = family s0 n
 

@@ -17,17 +17,17 @@ use Rattle.zdd_ops.specs.declared.memo.Operation.TheVariants.{Joined, Without, H
 use Rattle.zdd_ops.specs.contracts.memo.OperationPartialEq.TheImpl as derived
 use Rattle.zdd_ops.specs.contracts.memo.Join.{the_type}
 use denote.Enum.Bare.{sameb}
-use Rattle.zdd_ops.specs.Operations.{join_of, result_of, AreNumbers, join_eq, operation_eq, IsResult, IsSound, Remembers}
+use Rattle.zdd_ops.specs.Operations.{join_of, family_made_by, HasStoredOperands, join_eq, operation_eq, IsResult, AreResultsHeld, RemembersResult}
 
-numbers-grow : (P : Family → Type 0) (s t : Stored) (k : Operation) → Grows P s t → AreNumbers s.families k
-    → AreNumbers t.families k
+numbers-grow : (P : Family → Type 0) (s t : Stored) (k : Operation) → Grows P s t → HasStoredOperands s.families k
+    → HasStoredOperands t.families k
 numbers-grow P s t (Joined j f g) a n = (still P s t f.n a n.0, still P s t g.n a n.1)
 numbers-grow P s t (Without f g) a n = (still P s t f.n a n.0, still P s t g.n a n.1)
 numbers-grow P s t (Having f e) a n = still P s t f.n a n
 numbers-grow P s t (Minimal f) a n = still P s t f.n a n
 
-result-grow : (P : Family → Type 0) (s t : Stored) (k : Operation) → Grows P s t → AreNumbers s.families k
-    → result_of t.families k ≡ result_of s.families k
+result-grow : (P : Family → Type 0) (s t : Stored) (k : Operation) → Grows P s t → HasStoredOperands s.families k
+    → family_made_by t.families k ≡ family_made_by s.families k
 result-grow P s t (Joined j f g) a n = ap₂ (join_of j) (kept P s t f.n a n.0) (kept P s t g.n a n.1)
 result-grow P s t (Without f g) a n = ap₂ without (kept P s t f.n a n.0) (kept P s t g.n a n.1)
 result-grow P s t (Having f e) a n = ap (λ x. having x e.n) (kept P s t f.n a n)
@@ -42,7 +42,7 @@ IsResult-grow P s t k n a i = record {
 }
 
 pub IsSound-grow : (P : Family → Type 0) (s t : Stored) (entries : List (Operation × NodeId)) → Grows P s t
-    → IsSound entries s.families → IsSound entries t.families
+    → AreResultsHeld entries s.families → AreResultsHeld entries t.families
 IsSound-grow P s t entries a i = record { each = λ k n h. IsResult-grow P s t k n.n a (i.each k n h) }
 
 join_same : (a b : Join) → join_eq a b ≡ true → a ≡ b
@@ -79,9 +79,9 @@ operation_same (Minimal f) (Having h i) e = let wrong : ⊥ = cc in absurd wrong
 
 -- one more result, of an operation on numbers of the older store s
 pub IsSound-remember : (P Q : Family → Type 0) (s t u : Stored) (k : Operation) (n : NodeId)
-    (old new : List (Operation × NodeId)) → Grows P s u → AreNumbers s.families k → Grows Q t u → IsSound old t.families
-    → (n.n < length u.families + 2) × (at u.families n.n ≡ result_of s.families k) → Remembers k n old new
-    → IsSound new u.families
+    (old new : List (Operation × NodeId)) → Grows P s u → HasStoredOperands s.families k → Grows Q t u → AreResultsHeld old t.families
+    → (n.n < length u.families + 2) × (at u.families n.n ≡ family_made_by s.families k) → RemembersResult k n old new
+    → AreResultsHeld new u.families
 IsSound-remember P Q s t u k n old new a numbers b sound is r =
     let here : IsResult u.families k n.n =
     record {
@@ -112,7 +112,7 @@ handed P made s t n (Err x) d e = record {
 -- ---- one entry more
 remember_ok : (k : Operation) (n : NodeId) (old new : List (Operation × NodeId))
     → ((q : Operation) → lookup (operation_eq q) new ≡ cond (operation_eq k q) (Some n) (lookup (operation_eq q) old))
-    → Remembers k n old new
+    → RemembersResult k n old new
 remember_ok k n old new u = record { each = λ q m h. step q m h (operation_eq k q) refl }
   where
     step : (q : Operation) (m : NodeId) → lookup (operation_eq q) new ≡ Some m → (b : Bool) → operation_eq k q ≡ b
@@ -120,18 +120,18 @@ remember_ok k n old new u = record { each = λ q m h. step q m h (operation_eq k
     step q m h true e = let w : Some n ≡ Some m = ap (λ b. cond b (Some n) (lookup (operation_eq q) old)) (sym e) ∙ sym (u q) ∙ h in let nm : m ≡ n = cc in inr (e, nm)
     step q m h false e = inl (ap (λ b. cond b (Some n) (lookup (operation_eq q) old)) (sym e) ∙ sym (u q) ∙ h)
 
-remember_same : (k : Operation) (n : NodeId) (old new : List (Operation × NodeId)) → new ≡ old → Remembers k n old new
+remember_same : (k : Operation) (n : NodeId) (old new : List (Operation × NodeId)) → new ≡ old → RemembersResult k n old new
 remember_same k n old new e = record { each = λ q m h. inl (ap (lookup (operation_eq q)) (sym e) ∙ h) }
 
 pub remember_after : {T E : Type 0} (U : Type 0) (r : Result T E) (k : Operation) (n : NodeId)
     (old new : List (Operation × NodeId)) → OnOk r U → OnErr r (new ≡ old)
     → (U → (q : Operation) → lookup (operation_eq q) new
-    ≡ cond (operation_eq k q) (Some n) (lookup (operation_eq q) old)) → Remembers k n old new
+    ≡ cond (operation_eq k q) (Some n) (lookup (operation_eq q) old)) → RemembersResult k n old new
 remember_after U (Ok x) k n old new u e f = remember_ok k n old new (f u)
 remember_after U (Err x) k n old new u e f = remember_same k n old new e
 
 pub remember_from : (k : Operation) (n : NodeId) (old mid new : List (Operation × NodeId)) → (mid ≡ old) ⊎ (mid ≡ [])
-    → Remembers k n mid new → Remembers k n old new
+    → RemembersResult k n mid new → RemembersResult k n old new
 remember_from k n old mid new e r =
     record { each = λ q m h. ⊎_elim (λ l. inl (back q m l)) (λ t. inr t) (r.each q m h) }
   where

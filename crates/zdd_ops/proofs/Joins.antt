@@ -12,8 +12,8 @@ use Rattle.zdd_nodes.proofs.Halved.{Halved, moved}
 use Rattle.zdd_ops.specs.declared.memo.Join.{Join}
 use Rattle.zdd_ops.specs.declared.memo.Join.TheVariants.{Union, Meet, Minus}
 use Rattle.zdd_ops.specs.declared.cut.Cut.{Cut}
-use Rattle.zdd_ops.specs.Cuts.{IsCut}
-use Rattle.zdd_ops.specs.Operations.{join_of, IsKnown}
+use Rattle.zdd_ops.specs.Cuts.{AreCofactors}
+use Rattle.zdd_ops.specs.Operations.{join_of, IsKnownResult}
 
 join-halves : (j : Join) (v : ℕ) (f0 f1 g0 g1 : Family) → IsAbove v f0 → IsAbove v g0
     → join_of j (node v f0 f1) (node v g0 g1) ≡ node v (join_of j f0 g0) (join_of j f1 g1)
@@ -27,7 +27,7 @@ join-above Meet v f g a b = IsAbove-meet v f g a
 join-above Minus v f g a b = IsAbove-minus v f g a
 
 -- a join of two numbers of the store s0 that are cut
-module _ (j : Join) (s0 : Stored) (f g : ℕ) (cut : Cut) (c : IsCut s0.families f g cut) where
+module _ (j : Join) (s0 : Stored) (f g : ℕ) (cut : Cut) (c : AreCofactors s0.families f g cut) where
   abbrev fam : ℕ → Family
   fam n = family s0 n
 
@@ -75,7 +75,7 @@ nil_union : (x y : Family) → x ≡ [] → y ≡ union x y
 unfolding union
 nil_union x y e = ap (λ w. union w y) (sym e)
 
-pub union_g : (f g : ℕ) → (f ≡ 0) ⊎ (f ≡ g) → IsKnown union f g g
+pub union_g : (f g : ℕ) → (f ≡ 0) ⊎ (f ≡ g) → IsKnownResult union f g g
 union_g f g e fs h l = (
   l,
   ⊎_elim
@@ -83,10 +83,10 @@ union_g f g e fs h l = (
       (λ a. sym (ap (λ x. union x (at fs g)) (ap (at fs) a) ∙ union-self (at fs g))) e,
 )
 
-pub union_f : (f g : ℕ) → g ≡ 0 → IsKnown union f g f
+pub union_f : (f g : ℕ) → g ≡ 0 → IsKnownResult union f g f
 union_f f g e fs h l = (h, sym (ap (union (at fs f)) (ap (at fs) e) ∙ union-nil (at fs f)))
 
-pub meet_none : (f g n : ℕ) → n ≡ 0 → (f ≡ 0) ⊎ (g ≡ 0) → IsKnown meet f g n
+pub meet_none : (f g n : ℕ) → n ≡ 0 → (f ≡ 0) ⊎ (g ≡ 0) → IsKnownResult meet f g n
 meet_none f g n z e fs h l = (
   omega arith,
   ap (at fs) z ∙ ⊎_elim
@@ -94,10 +94,10 @@ meet_none f g n z e fs h l = (
       (λ a. sym (ap (meet (at fs f)) (ap (at fs) a) ∙ meet-nil (at fs f))) e,
 )
 
-pub meet_f : (f g : ℕ) → f ≡ g → IsKnown meet f g f
+pub meet_f : (f g : ℕ) → f ≡ g → IsKnownResult meet f g f
 meet_f f g e fs h l = (h, sym (ap (meet (at fs f)) (ap (at fs) (sym e)) ∙ meet-self (at fs f)))
 
-pub minus_none : (f g n : ℕ) → n ≡ 0 → (f ≡ 0) ⊎ (f ≡ g) → IsKnown minus f g n
+pub minus_none : (f g n : ℕ) → n ≡ 0 → (f ≡ 0) ⊎ (f ≡ g) → IsKnownResult minus f g n
 minus_none f g n z e fs h l = (
   omega arith,
   ap (at fs) z ∙ ⊎_elim
@@ -105,10 +105,10 @@ minus_none f g n z e fs h l = (
       (λ a. sym (ap (minus (at fs f)) (ap (at fs) (sym a)) ∙ minus-self (at fs f))) e,
 )
 
-pub minus_f : (f g : ℕ) → g ≡ 0 → IsKnown minus f g f
+pub minus_f : (f g : ℕ) → g ≡ 0 → IsKnownResult minus f g f
 minus_f f g e fs h l = (h, sym (ap (minus (at fs f)) (ap (at fs) e) ∙ minus-nil (at fs f)))
 
-pub without_f : (f g : ℕ) → (f ≡ 0) ⊎ (g ≡ 0) → IsKnown without f g f
+pub without_f : (f g : ℕ) → (f ≡ 0) ⊎ (g ≡ 0) → IsKnownResult without f g f
 without_f f g e fs h l = (
   h,
   ⊎_elim
@@ -116,7 +116,7 @@ without_f f g e fs h l = (
       (λ a. sym (ap (without (at fs f)) (ap (at fs) a) ∙ without-nil (at fs f))) e,
 )
 
-pub without_none : (f g n : ℕ) → n ≡ 0 → f ≡ g → IsKnown without f g n
+pub without_none : (f g n : ℕ) → n ≡ 0 → f ≡ g → IsKnownResult without f g n
 without_none f g n z e fs h l = (
   omega arith,
   ap (at fs) z

@@ -8,7 +8,7 @@ use Rattle.zdd_families.specs.Sections.{IsCounted, IsPartOfBoth, IsHalf}
 use Rattle.zdd_families.proofs.Laws.{minimal-nil, minimal-unit, IsAbove-minimal, IsAbove-without}
 use Rattle.zdd_families.proofs.Minimal.{minimal-node}
 use Rattle.zdd_families.proofs.Halves.{half_lower, half_upper, half_whole, half_parts}
-use Rattle.zdd_nodes.specs.Nodes.{NodeId, Stored, at, family, IsNumber, IsNode, Grows, Draws}
+use Rattle.zdd_nodes.specs.Nodes.{NodeId, Stored, at, family, IsFamilyNumber, IsNode, Grows, Draws}
 use Rattle.zdd_nodes.specs.declared.NodeFault.{NodeFault}
 use Rattle.zdd_nodes.proofs.Growing.{kept, still, Draws-weaker, Draws-after, counted_made}
 use Rattle.zdd_nodes.proofs.Halved.{Halved, moved}
@@ -18,7 +18,7 @@ minimal_small fs zero h = sym minimal-nil
 minimal_small fs (suc zero) h = sym minimal-unit
 minimal_small fs (suc (suc f)) h = absurd (omega (arith, h))
 
-module _ (s0 : Stored) (f v lo hi : ℕ) (i : IsNode s0.families f v lo hi) (f_in : IsNumber s0 f)
+module _ (s0 : Stored) (f v lo hi : ℕ) (i : IsNode s0.families f v lo hi) (f_in : IsFamilyNumber s0 f)
     (ascending : AllByRecursion Ascends (family s0 lo)) where
   abbrev fam : ℕ → Family
   fam n = family s0 n
@@ -64,7 +64,7 @@ module _ (s0 : Stored) (f v lo hi : ℕ) (i : IsNode s0.families f v lo hi) (f_i
 
   module _ (s1 s2 : Stored) (low up : NodeId) (dl : Draws Q Lower s0 s1 (Ok low))
       (du : Draws Q Above s1 s2 (Ok up)) where
-    pub low_in : IsNumber s2 low.n
+    pub low_in : IsFamilyNumber s2 low.n
     low_in = still Q s1 s2 low.n du.grows dl.ok.0
 
     -- the upper half: the minimal sets of the upper half that contain none of the lower half

@@ -12,7 +12,7 @@ use Rattle.zdd_ops.specs.declared.cut.Operands.{Operands}
 use Rattle.zdd_ops.specs.declared.memo.Join.{Join}
 use Rattle.zdd_ops.specs.declared.memo.Join.TheVariants.{Meet, Minus}
 use Rattle.zdd_ops.specs.Operations.{join_of}
-use Rattle.zdd_ops.specs.Cuts.{IsLower, IsPassed, ArePassed}
+use Rattle.zdd_ops.specs.Cuts.{IsLower, IsLeftOf, ArePassed}
 use Rattle.zdd_ops.specs.Cuts.IsLower.{whole, half}
 
 -- numbers that come to less than those of f and of what is left come to less than those of both
@@ -54,7 +54,7 @@ part_lower f g r h (half v lo hi a b c rest) p =
     part_lower f g (node v lo hi) h rest (IsPart-00 v f [] lo hi h a tt b c p)
 
 -- the sets without those of what is left
-pub without_passed : (s t : Stored) (f g r : ℕ) (result : Result NodeId NodeFault) → IsPassed s.families f g r
+pub without_passed : (s t : Stored) (f g r : ℕ) (result : Result NodeId NodeFault) → IsLeftOf s.families f g r
     → Draws (IsPartOfBoth (family s f) (family s r)) (without (family s f) (family s r)) s t result
     → Draws (IsPartOfBoth (family s f) (family s g)) (without (family s f) (family s g)) s t result
 without_passed s t f g r result p d =
@@ -65,12 +65,12 @@ without_passed s t f g r result p d =
     (λ h x. part_lower (family s f) (family s g) (family s r) h p.lower x) d)
 
 -- ---- the numbers
-pub passed_none : (fs : List Family) (f g : ℕ) → g < length fs + 2 → IsPassed fs f g g
+pub passed_none : (fs : List Family) (f g : ℕ) → g < length fs + 2 → IsLeftOf fs f g g
 passed_none fs f g h = record { left_in = h; no_more = omega arith; lower = whole }
 
 -- one more lower half
 pub passed_half : (fs : List Family) (f g event lo hi : ℕ) → g < length fs + 2 → IsNode fs g event lo hi
-    → IsAbove event (at fs f) → IsPassed fs f g lo
+    → IsAbove event (at fs f) → IsLeftOf fs f g lo
 passed_half fs f g event lo hi h i a = record {
   left_in = omega (arith, h, i.lo_before);
   no_more = omega (arith, i.lo_before);
@@ -81,7 +81,7 @@ lower_then : (f g r q : Family) → IsLower f g r → IsLower f r q → IsLower 
 lower_then f g r q a whole = a
 lower_then f g r q a (half v lo hi b c d rest) = half v lo hi b c d (lower_then f g r (node v lo hi) a rest)
 
-pub passed_then : (fs : List Family) (f g r q : ℕ) → IsPassed fs f g r → IsPassed fs f r q → IsPassed fs f g q
+pub passed_then : (fs : List Family) (f g r q : ℕ) → IsLeftOf fs f g r → IsLeftOf fs f r q → IsLeftOf fs f g q
 passed_then fs f g r q a b = record {
   left_in = b.left_in;
   no_more = omega (arith, a.no_more, b.no_more);
@@ -96,7 +96,7 @@ above_small fs v (suc (suc n)) h = absurd (omega (arith, h))
 
 -- ---- both families
 pub both_second : (fs : List Family) (f g : ℕ) (left : Operands) (lower : NodeId) → ArePassed fs Meet f g left
-    → IsPassed fs left.f.n left.g.n lower.n → ArePassed fs Meet f g (record { f = left.f; g = lower })
+    → IsLeftOf fs left.f.n left.g.n lower.n → ArePassed fs Meet f g (record { f = left.f; g = lower })
 both_second fs f g left lower a p = record {
   f_in = a.f_in;
   g_in = p.left_in;
@@ -106,7 +106,7 @@ both_second fs f g left lower a p = record {
 }
 
 pub both_first : (fs : List Family) (f g : ℕ) (left : Operands) (lower : NodeId) → ArePassed fs Meet f g left
-    → IsPassed fs left.g.n left.f.n lower.n → ArePassed fs Meet f g (record { f = lower; g = left.g })
+    → IsLeftOf fs left.g.n left.f.n lower.n → ArePassed fs Meet f g (record { f = lower; g = left.g })
 both_first fs f g left lower a p = record {
   f_in = p.left_in;
   g_in = a.g_in;
@@ -115,7 +115,7 @@ both_first fs f g left lower a p = record {
   same = a.same ∙ lower_meet (at fs left.g.n) (at fs left.f.n) (at fs lower.n) p.lower;
 }
 
-pub minus_second : (fs : List Family) (f g lower : NodeId) → f.n < length fs + 2 → IsPassed fs f.n g.n lower.n
+pub minus_second : (fs : List Family) (f g lower : NodeId) → f.n < length fs + 2 → IsLeftOf fs f.n g.n lower.n
     → ArePassed fs Minus f.n g.n (record { f = f; g = lower })
 minus_second fs f g lower h p = record {
   f_in = h;

@@ -5,14 +5,14 @@ use Rattle.zdd_families.specs.FamiliesInside.{node, IsAbove, meet}
 use Rattle.zdd_families.specs.Sections.{IsCounted, IsPartOfBoth}
 use Rattle.zdd_families.proofs.Laws.{without-node, IsAbove-without, IsAbove-meet}
 use Rattle.zdd_families.proofs.Sections.{IsCounted-upper, IsPart-00, IsPart-10, IsPart-11, IsPart-whole}
-use Rattle.zdd_nodes.specs.Nodes.{NodeId, Stored, family, IsNumber, Grows, Draws}
+use Rattle.zdd_nodes.specs.Nodes.{NodeId, Stored, family, IsFamilyNumber, Grows, Draws}
 use Rattle.zdd_nodes.specs.declared.NodeFault.{NodeFault}
 use Rattle.zdd_nodes.proofs.Growing.{Grows-then, kept, still, Draws-weaker, Draws-after, counted_made}
 use Rattle.zdd_nodes.proofs.Halved.{Halved, moved}
 use Rattle.zdd_ops.specs.declared.cut.Cut.{Cut}
-use Rattle.zdd_ops.specs.Cuts.{IsCut}
+use Rattle.zdd_ops.specs.Cuts.{AreCofactors}
 
-module _ (s0 : Stored) (f g : ℕ) (cut : Cut) (c : IsCut s0.families f g cut) where
+module _ (s0 : Stored) (f g : ℕ) (cut : Cut) (c : AreCofactors s0.families f g cut) where
   abbrev fam : ℕ → Family
   fam n = family s0 n
 
@@ -83,7 +83,7 @@ module _ (s0 : Stored) (f g : ℕ) (cut : Cut) (c : IsCut s0.families f g cut) w
       (IsCounted-upper cut.event.n Lower (meet First Second) h lower_is_above upper_is_above x))
 
   module _ (s1 s2 s3 : Stored) (a b : NodeId) (da : Draws Q First s1 s2 (Ok a)) (db : Draws Q Second s2 s3 (Ok b)) where
-    pub first_in : IsNumber s3 a.n
+    pub first_in : IsFamilyNumber s3 a.n
     first_in = still Q s2 s3 a.n db.grows da.ok.0
 
     -- the upper half: the meet of the first and the second

@@ -9,7 +9,7 @@ use Rattle.zdd_ops.specs.declared.memo.Join.{Join}
 use Rattle.zdd_ops.specs.Operations.{join_of}
 
 -- the halves of the numbers f and g at the least event of both; the halves are earlier numbers of greater events
-pub record IsCut (fs : List Family) (f g : ℕ) (c : Cut) : Type 0 where
+pub record AreCofactors (fs : List Family) (f g : ℕ) (c : Cut) : Type 0 where
   pub f_is : at fs f ≡ node c.event.n (at fs c.f0.n) (at fs c.f1.n)
   pub g_is : at fs g ≡ node c.event.n (at fs c.g0.n) (at fs c.g1.n)
   pub f0_in : c.f0.n < length fs + 2
@@ -33,7 +33,7 @@ pub data IsLower (f g : Family) : Family → Type 0 where
       → IsLower f g lo
 
 -- r is the number of what is left of g
-pub record IsPassed (fs : List Family) (f g r : ℕ) : Type 0 where
+pub record IsLeftOf (fs : List Family) (f g r : ℕ) : Type 0 where
   pub left_in : r < length fs + 2
   pub no_more : r ≤ g
   pub lower : IsLower (at fs f) (at fs g) (at fs r)

@@ -1,8 +1,8 @@
 //! Two families at the least event of both.
 
 ghost use Rattle.std.specs.Prelude.{◌≡◌, ◌≤◌, ◌<◌, ◌⊎◌, IfSome};
-ghost use Rattle.zdd_nodes.specs.Nodes.{IsNumber};
-ghost use Rattle.zdd_ops.specs.Cuts.{IsCut, IsPassed, ArePassed};
+ghost use Rattle.zdd_nodes.specs.Nodes.{IsFamilyNumber};
+ghost use Rattle.zdd_ops.specs.Cuts.{AreCofactors, IsLeftOf, ArePassed};
 
 use crate::memo::Join;
 use ar_base::EventId;
@@ -25,10 +25,10 @@ pub struct Cut {
 
 /// Cuts two families, of which one at least is a node, at their least event.
 pub fn cut_at(store: &Store, f: NodeId, g: NodeId) -> Cut
-    requires f_in { IsNumber store.now f.n }
-    requires g_in { IsNumber store.now g.n }
+    requires f_in { IsFamilyNumber store.now f.n }
+    requires g_in { IsFamilyNumber store.now g.n }
     requires some { (2 ≤ f.n) ⊎ (2 ≤ g.n) }
-    ensures { IsCut store.now.families f.n g.n result }
+    ensures { AreCofactors store.now.families f.n g.n result }
 {
     let none = NodeId::new(0);
     match store.split(f) {
@@ -66,9 +66,9 @@ fn cut_into(event: EventId, f0: NodeId, f1: NodeId, g0: NodeId, g1: NodeId) -> C
 
 /// The lower half of g, where its least event is below all events of f.
 fn next_lower(store: &Store, f: NodeId, g: NodeId) -> Option<NodeId>
-    requires f_in { IsNumber store.now f.n }
-    requires g_in { IsNumber store.now g.n }
-    ensures passed { IfSome result (λ r. IsPassed store.now.families f.n g.n r.n) }
+    requires f_in { IsFamilyNumber store.now f.n }
+    requires g_in { IsFamilyNumber store.now g.n }
+    ensures passed { IfSome result (λ r. IsLeftOf store.now.families f.n g.n r.n) }
     ensures less { IfSome result (λ r. r.n < g.n) }
 {
     if f.n == 0 {
@@ -89,9 +89,9 @@ fn next_lower(store: &Store, f: NodeId, g: NodeId) -> Option<NodeId>
 /// What is left of g where those of its sets are dropped that have an event below all events of f: its lower half, and
 /// the lower half of that, as long as f has no such event.
 pub fn pass(store: &Store, f: NodeId, g: NodeId) -> NodeId
-    requires f_in { IsNumber store.now f.n }
-    requires g_in { IsNumber store.now g.n }
-    ensures { IsPassed store.now.families f.n g.n result.n }
+    requires f_in { IsFamilyNumber store.now f.n }
+    requires g_in { IsFamilyNumber store.now g.n }
+    ensures { IsLeftOf store.now.families f.n g.n result.n }
 {
     let mut left = g;
     while let Some(lower) = next_lower(store, f, left) {
@@ -111,8 +111,8 @@ pub struct Operands {
 
 /// What is left of f and of g where those sets are dropped that have an event below all events of the other family.
 fn pass_both(store: &Store, f: NodeId, g: NodeId) -> Operands
-    requires f_in { IsNumber store.now f.n }
-    requires g_in { IsNumber store.now g.n }
+    requires f_in { IsFamilyNumber store.now f.n }
+    requires g_in { IsFamilyNumber store.now g.n }
     ensures { ArePassed store.now.families Join.Meet f.n g.n result }
 {
     let mut left = Operands { f, g };
@@ -130,8 +130,8 @@ fn pass_both(store: &Store, f: NodeId, g: NodeId) -> Operands
 /// What is left of f and of g for a join: where a join drops sets that have an event below all events of the other family,
 /// they are dropped at once.
 pub fn pass_for(store: &Store, join: Join, f: NodeId, g: NodeId) -> Operands
-    requires f_in { IsNumber store.now f.n }
-    requires g_in { IsNumber store.now g.n }
+    requires f_in { IsFamilyNumber store.now f.n }
+    requires g_in { IsFamilyNumber store.now g.n }
     ensures { ArePassed store.now.families join f.n g.n result }
 {
     match join {

@@ -2,7 +2,7 @@
 
 ghost use Rattle.std.specs.Prelude.{◌≡◌, ◌≤◌, [], length, MatchResult};
 ghost use Rattle.std.specs.Map.{lookup};
-ghost use Rattle.zdd_ops.specs.Operations.{operation_eq, Remembers};
+ghost use Rattle.zdd_ops.specs.Operations.{operation_eq, RemembersResult};
 
 use ar_base::EventId;
 use std::alloc::Global;
@@ -76,7 +76,7 @@ impl Memo {
     /// Where memory is refused the answer is Memory: without the result the work would be done again, and again on
     /// each way to it.
     pub fn remember(&mut self, operation: Operation, number: NodeId) -> Result<NodeId, NodeFault>
-        ensures entry { Remembers operation number self.old self.new }
+        ensures entry { RemembersResult operation number self.old self.new }
         ensures bound { length self.new ≤ 4194304 }
         ensures number { MatchResult result (λ n. n ≡ number) (λ e. e ≡ NodeFault.Memory) }
     {

@@ -5,7 +5,7 @@ ghost use Rattle.zdd_families.specs.Families.{minimal, without};
 ghost use Rattle.zdd_families.specs.FamiliesInside.{node, IsAbove, union, meet, minus, having};
 ghost use Rattle.zdd_families.specs.Sections.{IsCounted, IsPartOfBoth, IsHalf, IsMoreThan};
 ghost use Rattle.zdd_families.specs.SectionsInside.{IsMade};
-ghost use Rattle.zdd_nodes.specs.Nodes.{family, IsNumber, IsStored, IsSoundStore, Draws, HasNoRoom, Makes};
+ghost use Rattle.zdd_nodes.specs.Nodes.{family, IsFamilyNumber, IsStored, IsSoundStore, Draws, HasNoRoom, MakesFamily};
 
 use crate::halving::{having_in, join_in, minimal_in, without_in};
 use crate::memo::{Join, Memo};
@@ -24,13 +24,13 @@ pub struct Ops {
 
 impl Model for Ops {
     ghost use Rattle.zdd_nodes.specs.Nodes.{Stored, IsSoundStore};
-    ghost use Rattle.zdd_ops.specs.Operations.{IsSound};
+    ghost use Rattle.zdd_ops.specs.Operations.{AreResultsHeld};
 
     ghost Value = { Stored };
 
     ghost view = { λ o. o.store };
 
-    ghost invariant = { λ o. IsSound o.memo o.store.families × IsSoundStore o.store };
+    ghost invariant = { λ o. AreResultsHeld o.memo o.store.families × IsSoundStore o.store };
 }
 
 impl Ops {
@@ -50,12 +50,12 @@ impl Ops {
     /// The number of the family that has the sets of `hi`, each with the event added, and the sets of `lo`, as the store
     /// gives it.
     pub fn node(&mut self, event: EventId, lo: NodeId, hi: NodeId) -> Result<NodeId, NodeFault>
-        requires lo_in { IsNumber self.old lo.n }
-        requires hi_in { IsNumber self.old hi.n }
+        requires lo_in { IsFamilyNumber self.old lo.n }
+        requires hi_in { IsFamilyNumber self.old hi.n }
         requires lo_above { IsAbove event.n (family self.old lo.n) }
         requires hi_above { IsAbove event.n (family self.old hi.n) }
         ensures made { IfOk result (λ n.
-            Makes (node event.n (family self.old lo.n) (family self.old hi.n)) self.old self.new
+            MakesFamily (node event.n (family self.old lo.n) (family self.old hi.n)) self.old self.new
             n.n) }
         ensures full { result ≡ Err NodeFault.Full
             ↔ HasNoRoom (node event.n (family self.old lo.n) (family self.old hi.n)) self.old }
@@ -71,8 +71,8 @@ impl Ops {
     /// The sets that are in f or in g. Each node that is added is a counted section of the result; Full comes only where
     /// those and the families stored before are together more than the limit.
     pub fn union(&mut self, f: NodeId, g: NodeId) -> Result<NodeId, NodeFault>
-        requires f_in { IsNumber self.old f.n }
-        requires g_in { IsNumber self.old g.n }
+        requires f_in { IsFamilyNumber self.old f.n }
+        requires g_in { IsFamilyNumber self.old g.n }
         ensures drawn { let made = union (family self.old f.n) (family self.old g.n) in
             Draws (IsCounted made) made self.old self.new result }
         ensures full { result ≡ Err NodeFault.Full → IsMoreThan self.old.limit
@@ -86,8 +86,8 @@ impl Ops {
     /// The sets that are in both. Each node that is added is a counted section of the result; Full comes only where
     /// those and the families stored before are together more than the limit.
     pub fn meet(&mut self, f: NodeId, g: NodeId) -> Result<NodeId, NodeFault>
-        requires f_in { IsNumber self.old f.n }
-        requires g_in { IsNumber self.old g.n }
+        requires f_in { IsFamilyNumber self.old f.n }
+        requires g_in { IsFamilyNumber self.old g.n }
         ensures drawn { let made = meet (family self.old f.n) (family self.old g.n) in
             Draws (IsCounted made) made self.old self.new result }
         ensures full { result ≡ Err NodeFault.Full → IsMoreThan self.old.limit
@@ -101,8 +101,8 @@ impl Ops {
     /// The sets of f that are not in g. Each node that is added is a counted section of the result; Full comes only where
     /// those and the families stored before are together more than the limit.
     pub fn minus(&mut self, f: NodeId, g: NodeId) -> Result<NodeId, NodeFault>
-        requires f_in { IsNumber self.old f.n }
-        requires g_in { IsNumber self.old g.n }
+        requires f_in { IsFamilyNumber self.old f.n }
+        requires g_in { IsFamilyNumber self.old g.n }
         ensures drawn { let made = minus (family self.old f.n) (family self.old g.n) in
             Draws (IsCounted made) made self.old self.new result }
         ensures full { result ≡ Err NodeFault.Full → IsMoreThan self.old.limit
@@ -116,7 +116,7 @@ impl Ops {
     /// The sets of f that contain the event. Each node that is added is a counted section of the result; Full comes only
     /// where those and the families stored before are together more than the limit.
     pub fn having(&mut self, f: NodeId, event: EventId) -> Result<NodeId, NodeFault>
-        requires { IsNumber self.old f.n }
+        requires { IsFamilyNumber self.old f.n }
         ensures drawn { let made = having (family self.old f.n) event.n in
             Draws (IsCounted made) made self.old self.new result }
         ensures full { result ≡ Err NodeFault.Full → IsMoreThan self.old.limit
@@ -129,7 +129,7 @@ impl Ops {
     /// The sets of f without a proper subset in f. Each node that is added is a half of f; Full comes only where the
     /// halves and the families stored before are together more than the limit.
     pub fn minimal(&mut self, f: NodeId) -> Result<NodeId, NodeFault>
-        requires { IsNumber self.old f.n }
+        requires { IsFamilyNumber self.old f.n }
         ensures drawn { Draws (IsHalf (family self.old f.n)) (minimal (family self.old f.n))
             self.old self.new result }
         ensures full { result ≡ Err NodeFault.Full → IsMoreThan self.old.limit
@@ -142,8 +142,8 @@ impl Ops {
     /// The sets of f that contain no set of g. Each node that is added is a part of f and g; Full comes only where the
     /// parts and the families stored before are together more than the limit.
     pub fn without(&mut self, f: NodeId, g: NodeId) -> Result<NodeId, NodeFault>
-        requires f_in { IsNumber self.old f.n }
-        requires g_in { IsNumber self.old g.n }
+        requires f_in { IsFamilyNumber self.old f.n }
+        requires g_in { IsFamilyNumber self.old g.n }
         ensures drawn { Draws (IsPartOfBoth (family self.old f.n) (family self.old g.n))
             (without (family self.old f.n) (family self.old g.n)) self.old self.new result }
         ensures full { result ≡ Err NodeFault.Full → IsMoreThan self.old.limit

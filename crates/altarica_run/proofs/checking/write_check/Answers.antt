@@ -7,9 +7,9 @@ use Rattle.mode_trees.specs.Views.{trees_of, number_in}
 use Rattle.eq_core.specs.Views.{table_of}
 use Rattle.gate_diagrams.specs.declared.answer.Drawn.TheVariants.{Cuts}
 use Rattle.table_laws.specs.Drawn.{sets_of}
-use Rattle.check_text.specs.Printed.{chains_within, parts_of, check_text}
+use Rattle.check_text.specs.Printed.{chains_within, chain_parts, text_of_check}
 use Rattle.check_text.proofs.ShortLines.{short_known}
-use Rattle.cut_text.specs.Printed.{edges_of}
+use Rattle.cut_text.specs.Printed.{forest_edges}
 use Rattle.job_stages.specs.Tells.{Tells}
 use Rattle.job_stages.specs.declared.status.Status.TheVariants.{Done}
 use Rattle.job_stages.proofs.CutLemmas.{both, own_forest, forest_is, table, observed, said_of_table, source_observer, renamed, are_drawn, few_counted, checks_told, none_printed, printed_partly, printed_whole}
@@ -81,12 +81,12 @@ returns-in_err-print_check g c = λ asked w sought lines drawn e one.
     let o = source_observer w p trees gates is in
     let q = renamed w p trees gates is in
     let t = table w p trees gates is in
-    let shorts = subst (λ (o : Option ℕ). map parts_of c.in_ok-short.short.items
-    ≡ map parts_of (chains_within o c.args.chains.now)) (sym one) c.in_ok-short.ensures in
+    let shorts = subst (λ (o : Option ℕ). map chain_parts c.in_ok-short.short.items
+    ≡ map chain_parts (chains_within o c.args.chains.now)) (sym one) c.in_ok-short.ensures in
     let said = said_of_table w p trees gates is c.args.request.now.wanted sought.wanted c.in_ok-short.short.items
     c.in_ok-said.said.items (λ o at. rw c.deref.ensures.value at c.in_ok-said.ensures w sought is.flat.flat is.flat.views o at) in
-    let short : map parts_of c.deref-2.result.now ≡ map parts_of (chains_within w.order c.args.chains.now)
-    = subst (λ (z : List Chain). map parts_of z ≡ map parts_of (chains_within w.order c.args.chains.now))
+    let short : map chain_parts c.deref-2.result.now ≡ map chain_parts (chains_within w.order c.args.chains.now)
+    = subst (λ (z : List Chain). map chain_parts z ≡ map chain_parts (chains_within w.order c.args.chains.now))
     (sym c.deref-2.ensures.value) shorts in
     let chained = subst (λ (z : List Chain). AreVerdicts p is.flat.flat w.dropped (observed w p trees gates is)
     t.wanted.value z c.in_ok-said.said.items) (sym c.deref-2.ensures.value) said in
@@ -99,7 +99,7 @@ returns-in_err-print_check g c = λ asked w sought lines drawn e one.
     t.wanted.value w.order (sets_of f) _ d.1 c.in_ok-lister.ensures.lines c.args.chains.now c.deref-2.result.now
     c.deref-3.result.now short verdicts)
     few in
-    let asked_told = subst (λ (k : Option ℕ). Tells asked w (check_text p (edges_of trees.trees.items) k
+    let asked_told = subst (λ (k : Option ℕ). Tells asked w (text_of_check p (forest_edges trees.trees.items) k
     c.args.chains.now c.deref-2.result.now c.deref-3.result.now c.in_ok-lister.lister) Done) one told in
     printed_partly (Tells asked w) _ Done asked_told _ c.in_err-print_check.ensures _ _ r.1 r.2
 
@@ -118,12 +118,12 @@ returns g c = λ asked w sought lines drawn e one.
     let o = source_observer w p trees gates is in
     let q = renamed w p trees gates is in
     let t = table w p trees gates is in
-    let shorts = subst (λ (o : Option ℕ). map parts_of c.in_ok-short.short.items
-    ≡ map parts_of (chains_within o c.args.chains.now)) (sym one) c.in_ok-short.ensures in
+    let shorts = subst (λ (o : Option ℕ). map chain_parts c.in_ok-short.short.items
+    ≡ map chain_parts (chains_within o c.args.chains.now)) (sym one) c.in_ok-short.ensures in
     let said = said_of_table w p trees gates is c.args.request.now.wanted sought.wanted c.in_ok-short.short.items
     c.in_ok-said.said.items (λ o at. rw c.deref.ensures.value at c.in_ok-said.ensures w sought is.flat.flat is.flat.views o at) in
-    let short : map parts_of c.deref-2.result.now ≡ map parts_of (chains_within w.order c.args.chains.now)
-    = subst (λ (z : List Chain). map parts_of z ≡ map parts_of (chains_within w.order c.args.chains.now))
+    let short : map chain_parts c.deref-2.result.now ≡ map chain_parts (chains_within w.order c.args.chains.now)
+    = subst (λ (z : List Chain). map chain_parts z ≡ map chain_parts (chains_within w.order c.args.chains.now))
     (sym c.deref-2.ensures.value) shorts in
     let chained = subst (λ (z : List Chain). AreVerdicts p is.flat.flat w.dropped (observed w p trees gates is)
     t.wanted.value z c.in_ok-said.said.items) (sym c.deref-2.ensures.value) said in
@@ -136,7 +136,7 @@ returns g c = λ asked w sought lines drawn e one.
     t.wanted.value w.order (sets_of f) _ d.1 c.in_ok-lister.ensures.lines c.args.chains.now c.deref-2.result.now
     c.deref-3.result.now short verdicts)
     few in
-    let asked_told = subst (λ (k : Option ℕ). Tells asked w (check_text p (edges_of trees.trees.items) k
+    let asked_told = subst (λ (k : Option ℕ). Tells asked w (text_of_check p (forest_edges trees.trees.items) k
     c.args.chains.now c.deref-2.result.now c.deref-3.result.now c.in_ok-lister.lister) Done) one told in
     printed_whole (Tells asked w) _ Done asked_told tt c.in_ok-print_check.ensures
 

@@ -1,4 +1,4 @@
-use Rattle.typed_expr.specs.PairsInside.{turned}
+use Rattle.typed_expr.specs.PairsInside.{turned_pairs}
 use Rattle.ar_meaning.specs.FlatOf.{IsNumber}
 use Rattle.ar_meaning.proofs.FlatSystems.{flat_image, flat_back}
 use Rattle.ar_firing.proofs.ImageCuts.{reaches_there, conflicts_there, meets_there, makes_there, makes_back, cut_there, cut_back, conflict_set_there}
@@ -11,7 +11,7 @@ returns-clause-reaches g c =
     λ things sys flat f dropped ls t. (
       λ h. reaches_there (IsNumber things) sys flat (flat_image things sys flat f) dropped h,
       λ h. reaches_there
-          (turned (IsNumber things)) flat sys (flat_back things sys flat f) dropped h,
+          (turned_pairs (IsNumber things)) flat sys (flat_back things sys flat f) dropped h,
     )
 
 pub returns-clause-conflicts : goal.returns-clause-conflicts
@@ -19,7 +19,7 @@ returns-clause-conflicts g c =
     λ things sys flat f dropped ls k. (
       λ h. conflicts_there (IsNumber things) sys flat (flat_image things sys flat f) dropped h,
       λ h. conflicts_there
-          (turned (IsNumber things)) flat sys (flat_back things sys flat f) dropped h,
+          (turned_pairs (IsNumber things)) flat sys (flat_back things sys flat f) dropped h,
     )
 
 pub returns-clause-makes : goal.returns-clause-makes
@@ -41,7 +41,7 @@ returns-clause-conflict_sets g c =
     λ things sys flat f dropped set. (
       λ h. conflict_set_there (IsNumber things) sys flat (flat_image things sys flat f) dropped set h,
       λ h.
-          conflict_set_there (turned (IsNumber things)) flat sys (flat_back things sys flat f) dropped set h,
+          conflict_set_there (turned_pairs (IsNumber things)) flat sys (flat_back things sys flat f) dropped set h,
     )
 
 pub returns-clause-meets : goal.returns-clause-meets
@@ -49,7 +49,7 @@ returns-clause-meets g c =
     λ things sys flat f dropped set. (
       λ h. meets_there (IsNumber things) sys flat (flat_image things sys flat f) dropped h,
       λ h. meets_there
-          (turned (IsNumber things)) flat sys (flat_back things sys flat f) dropped h,
+          (turned_pairs (IsNumber things)) flat sys (flat_back things sys flat f) dropped h,
     )
 
 pub returns-clause-firable : goal.returns-clause-firable
@@ -57,7 +57,7 @@ returns-clause-firable g c =
     λ things sys flat f dropped set t. (
       λ h. firable_there (IsNumber things) sys flat (flat_image things sys flat f) dropped h,
       λ h. firable_there
-          (turned (IsNumber things)) flat sys (flat_back things sys flat f) dropped h,
+          (turned_pairs (IsNumber things)) flat sys (flat_back things sys flat f) dropped h,
     )
 
 pub returns-clause-lines : goal.returns-clause-lines
@@ -65,7 +65,7 @@ returns-clause-lines g c =
     λ things sys flat f dropped set ls. (
       λ h. line_there (IsNumber things) sys flat (flat_image things sys flat f) dropped h,
       λ h. line_there
-          (turned (IsNumber things)) flat sys (flat_back things sys flat f) dropped h,
+          (turned_pairs (IsNumber things)) flat sys (flat_back things sys flat f) dropped h,
     )
 
 pub returns-clause-forests : goal.returns-clause-forests
@@ -73,7 +73,7 @@ returns-clause-forests g c =
     λ things sys flat f dropped trees. (
       λ h. forest_there (IsNumber things) sys flat (flat_image things sys flat f) dropped h,
       λ h. forest_there
-          (turned (IsNumber things)) flat sys (flat_back things sys flat f) dropped h,
+          (turned_pairs (IsNumber things)) flat sys (flat_back things sys flat f) dropped h,
     )
 
 pub returns-clause-trees : goal.returns-clause-trees
@@ -81,7 +81,7 @@ returns-clause-trees g c =
     λ things sys flat f dropped tree. (
       λ h. mode_tree_there (IsNumber things) sys flat (flat_image things sys flat f) dropped tree h,
       λ h. mode_tree_there
-          (turned (IsNumber things)) flat sys (flat_back things sys flat f) dropped tree h,
+          (turned_pairs (IsNumber things)) flat sys (flat_back things sys flat f) dropped tree h,
     )
 
 pub returns-clause-keeps : goal.returns-clause-keeps
@@ -89,7 +89,7 @@ returns-clause-keeps g c =
     λ things sys flat f dropped rule. (
       λ h. keeps_there (IsNumber things) sys flat (flat_image things sys flat f) dropped rule h,
       λ h. keeps_there
-          (turned (IsNumber things)) flat sys (flat_back things sys flat f) dropped rule h,
+          (turned_pairs (IsNumber things)) flat sys (flat_back things sys flat f) dropped rule h,
     )
 
 pub returns-clause-breaks : goal.returns-clause-breaks
@@ -97,7 +97,7 @@ returns-clause-breaks g c =
     λ things sys flat f dropped rule spot. (
       λ h. breaks_there (IsNumber things) sys flat (flat_image things sys flat f) dropped h,
       λ h. breaks_there
-          (turned (IsNumber things)) flat sys (flat_back things sys flat f) dropped h,
+          (turned_pairs (IsNumber things)) flat sys (flat_back things sys flat f) dropped h,
     )
 
 pub returns-clause-first_broken : goal.returns-clause-first_broken
@@ -105,7 +105,7 @@ returns-clause-first_broken g c =
     λ things sys flat f dropped rule spot. (
       λ h. first_broken_there (IsNumber things) sys flat (flat_image things sys flat f) dropped h,
       λ h.
-          first_broken_there (turned (IsNumber things)) flat sys (flat_back things sys flat f) dropped h,
+          first_broken_there (turned_pairs (IsNumber things)) flat sys (flat_back things sys flat f) dropped h,
     )
 
 pub returns-clause-all : goal.returns-clause-all
@@ -113,7 +113,7 @@ returns-clause-all g c =
     λ things sys flat f dropped. (
       λ h. keeps_all_there (IsNumber things) sys flat (flat_image things sys flat f) dropped h,
       λ h. keeps_all_there
-          (turned (IsNumber things)) flat sys (flat_back things sys flat f) dropped h,
+          (turned_pairs (IsNumber things)) flat sys (flat_back things sys flat f) dropped h,
     )
 
 pub returns-clause-all_asked : goal.returns-clause-all_asked
@@ -121,5 +121,5 @@ returns-clause-all_asked g c =
     λ things sys flat f order dropped. (
       λ h. keeps_asked_there (IsNumber things) sys flat (flat_image things sys flat f) dropped h,
       λ h. keeps_asked_there
-          (turned (IsNumber things)) flat sys (flat_back things sys flat f) dropped h,
+          (turned_pairs (IsNumber things)) flat sys (flat_back things sys flat f) dropped h,
     )

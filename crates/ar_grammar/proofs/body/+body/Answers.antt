@@ -3,7 +3,7 @@ use Rattle.ar_lexer.specs.declared.token.TokenKind.TheVariants.{Sign, Reserved}
 use Rattle.ar_syntax.specs.declared.members.Member.TheVariants as member
 use Rattle.expression_grammar.specs.Words.{between}
 use Rattle.ar_grammar.specs.Members.{ReadsKeyed, single, block, event, hide, ReadsMember, keyed, ReadsLater, ReadsBody}
-use Rattle.expression_grammar.specs.Results.{kind_at}
+use Rattle.expression_grammar.specs.Results.{first_token_kind}
 use Rattle.ar_grammar.specs.Results.{begins_section, begins_later, begins_member, begins_body, ends_body}
 use Rattle.expression_grammar.proofs.Finding.{finds_then, finds_fails, finds_given, finds_plain, finds_err, finds_ok, finds_nothing, finds_token, finds_from, loops_stop, loops_fail, spans_then, spans_token, spans_expected, spans_from, spans_map, eats_kind, follows_token, follows_any}
 use Rattle.ar_grammar.proofs.Finding.{finds_kept, kept_as, finds_deep}
@@ -94,12 +94,12 @@ body-returns-clause-only t c = finds_body c.if-left-eq0.false
 pub opening_members-returns-in_err-member-clause-only : goal.opening_members-returns-in_err-member-clause-only
 opening_members-returns-in_err-member-clause-only t c =
     loops_fail c.loop-parser.invariant.loops
-    (member_open (kind_at c.loop-parser.parser.rest.now)
+    (member_open (first_token_kind c.loop-parser.parser.rest.now)
     (ap begins_member (sym c.kind.ensures) ∙ sym c.loop-parser-test.ensures)) c.in_err-member.ensures.only
     c.from_residual.ensures.1 follows_any
 
 pub opening_members-loop-parser-preserved : goal.opening_members-loop-parser-preserved
-opening_members-loop-parser-preserved t c = let m = c.in_ok-member.ensures.found in groups_push m.0 c.loop-parser.invariant (member_open (kind_at c.loop-parser.parser.rest.now) (ap begins_member (sym c.kind.ensures) ∙ sym c.loop-parser-test.ensures)) m.2 c.in_ok-member.ensures.only follows_any m.1
+opening_members-loop-parser-preserved t c = let m = c.in_ok-member.ensures.found in groups_push m.0 c.loop-parser.invariant (member_open (first_token_kind c.loop-parser.parser.rest.now) (ap begins_member (sym c.kind.ensures) ∙ sym c.loop-parser-test.ensures)) m.2 c.in_ok-member.ensures.only follows_any m.1
 
 pub opening_members-returns-clause-only : goal.opening_members-returns-clause-only
 opening_members-returns-clause-only t c = loops_stop c.loop-parser.invariant.loops (λ n next ts h k. let x : true ≡ false = sym (member_first n next ts h) ∙ ap begins_member (k ∙ sym c.kind.ensures) ∙ sym c.loop-parser-test.ensures in absurd (cc))
@@ -169,9 +169,9 @@ keyed-returns-in_err-member-clause-only t c =
     finds_from (finds_given (finds_err c.in_err-member.ensures.only c.from_residual-in_err-member.ensures.1)
     (λ n next ts h s k. (
       keyed_single n next ts h
-          (λ e. c.if-is_at.ensures.no (ap kind_at (sym c.if-eat.ensures.left) ∙ sym k ∙ e))
-          (λ e. c.if-is_at-2.ensures.no (ap kind_at (sym c.if-eat.ensures.left) ∙ sym k ∙ e))
-          (λ e. c.if-eat.ensures.other (ap kind_at (sym c.if-eat.ensures.left) ∙ sym k ∙ e)),
+          (λ e. c.if-is_at.ensures.no (ap first_token_kind (sym c.if-eat.ensures.left) ∙ sym k ∙ e))
+          (λ e. c.if-is_at-2.ensures.no (ap first_token_kind (sym c.if-eat.ensures.left) ∙ sym k ∙ e))
+          (λ e. c.if-eat.ensures.other (ap first_token_kind (sym c.if-eat.ensures.left) ∙ sym k ∙ e)),
       s,
     ))) c.if-eat.ensures.left
 
@@ -189,9 +189,9 @@ keyed-returns-clause-only t c = finds_from
     (finds_given (finds_kept _ c.in_ok-member.ensures.only c.put-2.ensures.err)
     (λ n next ts h s k. (
       keyed_single n next ts h
-          (λ e. c.if-is_at.ensures.no (ap kind_at (sym c.if-eat.ensures.left) ∙ sym k ∙ e))
-          (λ e. c.if-is_at-2.ensures.no (ap kind_at (sym c.if-eat.ensures.left) ∙ sym k ∙ e))
-          (λ e. c.if-eat.ensures.other (ap kind_at (sym c.if-eat.ensures.left) ∙ sym k ∙ e)),
+          (λ e. c.if-is_at.ensures.no (ap first_token_kind (sym c.if-eat.ensures.left) ∙ sym k ∙ e))
+          (λ e. c.if-is_at-2.ensures.no (ap first_token_kind (sym c.if-eat.ensures.left) ∙ sym k ∙ e))
+          (λ e. c.if-eat.ensures.other (ap first_token_kind (sym c.if-eat.ensures.left) ∙ sym k ∙ e)),
       s,
     ))) c.if-eat.ensures.left
 
@@ -240,12 +240,12 @@ sections-returns-clause-only t c = finds_given
 pub later_clauses-returns-in_err-later_clause-clause-only : goal.later_clauses-returns-in_err-later_clause-clause-only
 later_clauses-returns-in_err-later_clause-clause-only t c =
     loops_fail c.loop-parser.invariant.loops
-    (later_open (kind_at c.loop-parser.parser.rest.now)
+    (later_open (first_token_kind c.loop-parser.parser.rest.now)
     (ap begins_later (sym c.kind.ensures) ∙ sym c.loop-parser-test.ensures)) c.in_err-later_clause.ensures.only
     c.from_residual.ensures.1 later_follows
 
 pub later_clauses-loop-parser-preserved : goal.later_clauses-loop-parser-preserved
-later_clauses-loop-parser-preserved t c = let m = c.in_ok-later_clause.ensures.found in groups_push m.0 c.loop-parser.invariant (later_open (kind_at c.loop-parser.parser.rest.now) (ap begins_later (sym c.kind.ensures) ∙ sym c.loop-parser-test.ensures)) m.2 c.in_ok-later_clause.ensures.only later_follows m.1
+later_clauses-loop-parser-preserved t c = let m = c.in_ok-later_clause.ensures.found in groups_push m.0 c.loop-parser.invariant (later_open (first_token_kind c.loop-parser.parser.rest.now) (ap begins_later (sym c.kind.ensures) ∙ sym c.loop-parser-test.ensures)) m.2 c.in_ok-later_clause.ensures.only later_follows m.1
 
 pub later_clauses-returns-clause-only : goal.later_clauses-returns-clause-only
 later_clauses-returns-clause-only t c = loops_stop c.loop-parser.invariant.loops (λ n next ts h k. let x : true ≡ false = sym (later_first n next ts h) ∙ ap begins_later (k ∙ sym c.kind.ensures) ∙ sym c.loop-parser-test.ensures in absurd (cc))

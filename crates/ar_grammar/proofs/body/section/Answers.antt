@@ -1,5 +1,5 @@
 use Rattle.std.proofs.Common.{sym, ap, ◌∙◌}
-use Rattle.expression_grammar.specs.Results.{kind_at}
+use Rattle.expression_grammar.specs.Results.{first_token_kind}
 use Rattle.expression_grammar.proofs.Finding.{finds_then, finds_fails, finds_given, finds_err, finds_ok, finds_token, finds_from, spans_then, spans_token, spans_expected, spans_from, spans_map, eats_kind, follows_any}
 use Rattle.ar_grammar.proofs.BodyParts.{section_transition, section_assertion, section_ends_transitions, section_ends_assertions}
 use Rattle.std.proofs.Common.{inl, inr}
@@ -33,7 +33,7 @@ returns-in_err-expect-clause-only c =
     finds_from (finds_given (finds_fails (c.in_err-expect.ensures.only _) c.from_residual-in_err-expect.ensures.1
     follows_any) (λ n next ts h s k. (
       section_assertion n next ts h
-          (λ e. c.if-eat.ensures.other (ap kind_at (sym c.if-eat.ensures.left) ∙ sym k ∙ e)),
+          (λ e. c.if-eat.ensures.other (ap first_token_kind (sym c.if-eat.ensures.left) ∙ sym k ∙ e)),
       section_ends_assertions next
           s,
     ))) c.if-eat.ensures.left
@@ -44,7 +44,7 @@ returns-in_err-assertions-clause-only c =
     (finds_err c.in_err-assertions.ensures.only c.from_residual-in_err-assertions.ensures.1) follows_any)
     (λ n next ts h s k. (
       section_assertion n next ts h
-          (λ e. c.if-eat.ensures.other (ap kind_at (sym c.if-eat.ensures.left) ∙ sym k ∙ e)),
+          (λ e. c.if-eat.ensures.other (ap first_token_kind (sym c.if-eat.ensures.left) ∙ sym k ∙ e)),
       section_ends_assertions next
           s,
     ))) c.if-eat.ensures.left
@@ -57,7 +57,7 @@ returns-clause-only c = finds_from (finds_given
     (finds_then (c.in_ok-expect.ensures.only _) (finds_ok _ c.in_ok-assertions.ensures.only) follows_any)
     (λ n next ts h s k. (
       section_assertion n next ts h
-          (λ e. c.if-eat.ensures.other (ap kind_at (sym c.if-eat.ensures.left) ∙ sym k ∙ e)),
+          (λ e. c.if-eat.ensures.other (ap first_token_kind (sym c.if-eat.ensures.left) ∙ sym k ∙ e)),
       section_ends_assertions next
           s,
     ))) c.if-eat.ensures.left

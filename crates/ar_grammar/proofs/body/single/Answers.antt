@@ -2,7 +2,7 @@ use Rattle.std.proofs.Common.{refl, sym, ap, ◌∙◌}
 use Rattle.ar_lexer.specs.declared.token.TokenKind.TheVariants.{Reserved}
 use Rattle.ar_lexer.specs.declared.words.TheConstants.{BOOLEAN}
 use Rattle.ar_grammar.specs.Members.{ReadsDeclared, ReadsSingle, extends, clones, embeds, observer}
-use Rattle.expression_grammar.specs.Results.{kind_at}
+use Rattle.expression_grammar.specs.Results.{first_token_kind}
 use Rattle.expression_grammar.proofs.Finding.{finds_then, finds_given, finds_err, finds_ok, finds_token, finds_from, spans_then, spans_token, spans_map, takes_from, eats_kind, follows_any}
 use Rattle.ar_grammar.proofs.BodyParts.{takes_at, single_declared, single_extends, single_as_declared, single_of_declared, single_clones, single_embeds, single_observer, single_parameter}
 use Rattle.ar_grammar.proofs.body.single.Goals as goal
@@ -83,11 +83,11 @@ pub returns-clause-only : goal.returns-clause-only
 returns-clause-only c = finds_from (finds_given c.parameter.ensures.only
     (λ n next ts h s k. (
       single_parameter n next ts h
-          (λ e. c.if-is_at.ensures.no (ap kind_at (sym c.if-eat.ensures.left) ∙ sym k ∙ e))
-          (λ e. c.if-is_at-2.ensures.no (ap kind_at (sym c.if-eat.ensures.left) ∙ sym k ∙ e))
-          (λ e. c.if-is_at-3.ensures.no (ap kind_at (sym c.if-eat.ensures.left) ∙ sym k ∙ e))
-          (λ e. c.if-is_at-4.ensures.no (ap kind_at (sym c.if-eat.ensures.left) ∙ sym k ∙ e))
-          (λ e. c.if-eat.ensures.other (ap kind_at (sym c.if-eat.ensures.left) ∙ sym k ∙ e)),
+          (λ e. c.if-is_at.ensures.no (ap first_token_kind (sym c.if-eat.ensures.left) ∙ sym k ∙ e))
+          (λ e. c.if-is_at-2.ensures.no (ap first_token_kind (sym c.if-eat.ensures.left) ∙ sym k ∙ e))
+          (λ e. c.if-is_at-3.ensures.no (ap first_token_kind (sym c.if-eat.ensures.left) ∙ sym k ∙ e))
+          (λ e. c.if-is_at-4.ensures.no (ap first_token_kind (sym c.if-eat.ensures.left) ∙ sym k ∙ e))
+          (λ e. c.if-eat.ensures.other (ap first_token_kind (sym c.if-eat.ensures.left) ∙ sym k ∙ e)),
       refl,
     ))) c.if-eat.ensures.left
 

@@ -1,6 +1,6 @@
 use Rattle.std.proofs.Common.{refl, sym, ap, ◌∙◌}
 use Rattle.ar_grammar.specs.Instructions.{assign, tie, skip}
-use Rattle.expression_grammar.specs.Results.{kind_at}
+use Rattle.expression_grammar.specs.Results.{first_token_kind}
 use Rattle.expression_grammar.proofs.Finding.{finds_then, finds_fails, finds_given, finds_err, finds_ok, finds_token, finds_from, spans_then, spans_token, spans_expected, spans_from, spans_map, eats_kind, follows_token, follows_any}
 use Rattle.std.proofs.Common.{inl, inr}
 use Rattle.expression_grammar.proofs.Standing.{halts_err, refuses_fails, refuses_then, refuses_map, refuses_from, passes, passes_token, passes_expected, begins_then, begins_token}
@@ -30,7 +30,7 @@ pub returns-in_err-path-clause-only : goal.returns-in_err-path-clause-only
 returns-in_err-path-clause-only c =
     finds_from (finds_given (finds_fails (c.in_err-path.ensures.only _) c.from_residual-in_err-path.ensures.1
     simple_follows) (λ n next ts h s k. (
-      simple_parts n next ts h (λ e. c.if-eat.ensures.other (ap kind_at (sym c.if-eat.ensures.left) ∙ sym k ∙ e)),
+      simple_parts n next ts h (λ e. c.if-eat.ensures.other (ap first_token_kind (sym c.if-eat.ensures.left) ∙ sym k ∙ e)),
       refl,
     ))) c.if-eat.ensures.left
 
@@ -41,7 +41,7 @@ returns-in_err-expect-2-clause-only c =
     (λ n next ts h s k. (simple_tie n next ts h (k ∙ c.if-is_at.ensures.yes), refl))) simple_follows)
     (λ n next ts h s k. (
       simple_parts n next ts h
-          (λ e. c.if-eat.ensures.other (ap kind_at (sym c.if-eat.ensures.left) ∙ sym k ∙ e)),
+          (λ e. c.if-eat.ensures.other (ap first_token_kind (sym c.if-eat.ensures.left) ∙ sym k ∙ e)),
       refl,
     ))) c.if-eat.ensures.left
 
@@ -53,7 +53,7 @@ returns-in_err-other-clause-only c =
     (λ n next ts h s k. (simple_tie n next ts h (k ∙ c.if-is_at.ensures.yes), refl))) simple_follows)
     (λ n next ts h s k. (
       simple_parts n next ts h
-          (λ e. c.if-eat.ensures.other (ap kind_at (sym c.if-eat.ensures.left) ∙ sym k ∙ e)),
+          (λ e. c.if-eat.ensures.other (ap first_token_kind (sym c.if-eat.ensures.left) ∙ sym k ∙ e)),
       refl,
     ))) c.if-eat.ensures.left
 
@@ -67,7 +67,7 @@ returns-in_err-expect-3-clause-only c =
     (λ n next ts h s k. (simple_tie n next ts h (k ∙ c.if-is_at.ensures.yes), refl))) simple_follows)
     (λ n next ts h s k. (
       simple_parts n next ts h
-          (λ e. c.if-eat.ensures.other (ap kind_at (sym c.if-eat.ensures.left) ∙ sym k ∙ e)),
+          (λ e. c.if-eat.ensures.other (ap first_token_kind (sym c.if-eat.ensures.left) ∙ sym k ∙ e)),
       refl,
     ))) c.if-eat.ensures.left
 
@@ -87,7 +87,7 @@ returns-then-is_at-clause-only c = finds_from
     (λ n next ts h s k. (simple_tie n next ts h (k ∙ c.if-is_at.ensures.yes), refl))) simple_follows)
     (λ n next ts h s k. (
       simple_parts n next ts h
-          (λ e. c.if-eat.ensures.other (ap kind_at (sym c.if-eat.ensures.left) ∙ sym k ∙ e)),
+          (λ e. c.if-eat.ensures.other (ap first_token_kind (sym c.if-eat.ensures.left) ∙ sym k ∙ e)),
       refl,
     ))) c.if-eat.ensures.left
 
@@ -98,7 +98,7 @@ returns-in_err-value-clause-only c =
     (λ n next ts h s k. (simple_assign n next ts h (λ e. c.if-is_at.ensures.no (sym k ∙ e)), refl))) simple_follows)
     (λ n next ts h s k. (
       simple_parts n next ts h
-          (λ e. c.if-eat.ensures.other (ap kind_at (sym c.if-eat.ensures.left) ∙ sym k ∙ e)),
+          (λ e. c.if-eat.ensures.other (ap first_token_kind (sym c.if-eat.ensures.left) ∙ sym k ∙ e)),
       refl,
     ))) c.if-eat.ensures.left
 
@@ -114,7 +114,7 @@ returns-clause-only c = finds_from (finds_given
     (λ n next ts h s k. (simple_assign n next ts h (λ e. c.if-is_at.ensures.no (sym k ∙ e)), refl))) simple_follows)
     (λ n next ts h s k. (
       simple_parts n next ts h
-          (λ e. c.if-eat.ensures.other (ap kind_at (sym c.if-eat.ensures.left) ∙ sym k ∙ e)),
+          (λ e. c.if-eat.ensures.other (ap first_token_kind (sym c.if-eat.ensures.left) ∙ sym k ∙ e)),
       refl,
     ))) c.if-eat.ensures.left
 

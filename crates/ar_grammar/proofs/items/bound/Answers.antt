@@ -1,6 +1,6 @@
 use Rattle.std.proofs.Common.{refl, sym, ap, ◌∙◌}
 use Rattle.ar_grammar.specs.Items.{ReadsWhole, ReadsBound, whole, negated}
-use Rattle.expression_grammar.specs.Results.{kind_at}
+use Rattle.expression_grammar.specs.Results.{first_token_kind}
 use Rattle.expression_grammar.proofs.Finding.{finds_then, finds_given, finds_err, finds_ok, finds_token, finds_from, spans_then, spans_token, spans_map, takes_map, takes_from, eats_kind, follows_any}
 use Rattle.ar_grammar.proofs.ItemParts.{bound_minus, bound_whole}
 use Rattle.std.proofs.Common.{arith, rules}
@@ -34,7 +34,7 @@ returns-clause-only c = λ left. finds_from
     (finds_given (c.whole-2.ensures.only left)
     (λ n next ts h s k. (
       bound_whole next ts h
-          (λ e. c.if-eat.ensures.other (ap kind_at (sym c.if-eat.ensures.left) ∙ sym k ∙ e)),
+          (λ e. c.if-eat.ensures.other (ap first_token_kind (sym c.if-eat.ensures.left) ∙ sym k ∙ e)),
       refl,
     ))) c.if-eat.ensures.left
 

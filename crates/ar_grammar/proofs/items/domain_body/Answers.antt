@@ -1,5 +1,5 @@
 use Rattle.std.proofs.Common.{refl, sym, ap, ◌∙◌}
-use Rattle.expression_grammar.specs.Results.{kind_at}
+use Rattle.expression_grammar.specs.Results.{first_token_kind}
 use Rattle.expression_grammar.proofs.Finding.{finds_then, finds_fails, finds_given, finds_err, finds_ok, finds_token, finds_from, spans_then, spans_token, spans_expected, spans_from, eats_kind, follows_token, follows_any}
 use Rattle.ar_grammar.proofs.ItemParts.{domain_symbols, domain_range, range_again}
 use Rattle.std.proofs.Common.{rules}
@@ -43,7 +43,7 @@ returns-in_err-expect-2-clause-only c =
     c.from_residual-in_err-expect-2.ensures.1 follows_any)
     (λ n next ts h s k. (
       domain_range next ts h
-          (λ e. c.if-eat.ensures.other (ap kind_at (sym c.if-eat.ensures.left) ∙ sym k ∙ e)),
+          (λ e. c.if-eat.ensures.other (ap first_token_kind (sym c.if-eat.ensures.left) ∙ sym k ∙ e)),
       refl,
     ))) c.if-eat.ensures.left
 
@@ -53,7 +53,7 @@ returns-in_err-low-clause-only c = λ left. finds_from
     (finds_fails (c.in_err-low.ensures.only left) c.from_residual-in_err-low.ensures.1 follows_any) follows_any)
     (λ n next ts h s k. (
       domain_range next ts h
-          (λ e. c.if-eat.ensures.other (ap kind_at (sym c.if-eat.ensures.left) ∙ sym k ∙ e)),
+          (λ e. c.if-eat.ensures.other (ap first_token_kind (sym c.if-eat.ensures.left) ∙ sym k ∙ e)),
       refl,
     ))) c.if-eat.ensures.left
 
@@ -63,7 +63,7 @@ returns-in_err-expect-3-clause-only c =
     (finds_then (c.in_ok-low.ensures.only left)
     (finds_fails (c.in_err-expect-3.ensures.only left) c.from_residual-in_err-expect-3.ensures.1 follows_any)
     follows_any) follows_any) (λ n next ts h s k.
-    (domain_range next ts h (λ e. c.if-eat.ensures.other (ap kind_at (sym c.if-eat.ensures.left) ∙ sym k ∙ e)), refl)))
+    (domain_range next ts h (λ e. c.if-eat.ensures.other (ap first_token_kind (sym c.if-eat.ensures.left) ∙ sym k ∙ e)), refl)))
     c.if-eat.ensures.left
 
 pub returns-in_err-high-clause-only : goal.returns-in_err-high-clause-only
@@ -73,7 +73,7 @@ returns-in_err-high-clause-only c =
     (finds_then (c.in_ok-expect-3.ensures.only left)
     (finds_fails (c.in_err-high.ensures.only left) c.from_residual-in_err-high.ensures.1 follows_any) follows_any)
     follows_any) follows_any) (λ n next ts h s k.
-    (domain_range next ts h (λ e. c.if-eat.ensures.other (ap kind_at (sym c.if-eat.ensures.left) ∙ sym k ∙ e)), refl)))
+    (domain_range next ts h (λ e. c.if-eat.ensures.other (ap first_token_kind (sym c.if-eat.ensures.left) ∙ sym k ∙ e)), refl)))
     c.if-eat.ensures.left
 
 pub returns-in_err-expect-4-clause-only : goal.returns-in_err-expect-4-clause-only
@@ -86,7 +86,7 @@ returns-in_err-expect-4-clause-only c =
     follows_any) follows_any) follows_any)
     (λ n next ts h s k. (
       domain_range next ts h
-          (λ e. c.if-eat.ensures.other (ap kind_at (sym c.if-eat.ensures.left) ∙ sym k ∙ e)),
+          (λ e. c.if-eat.ensures.other (ap first_token_kind (sym c.if-eat.ensures.left) ∙ sym k ∙ e)),
       refl,
     ))) c.if-eat.ensures.left
 
@@ -102,7 +102,7 @@ returns-clause-only c = λ left. finds_from
     follows_any) follows_any) follows_any)
     (λ n next ts h s k. (
       domain_range next ts h
-          (λ e. c.if-eat.ensures.other (ap kind_at (sym c.if-eat.ensures.left) ∙ sym k ∙ e)),
+          (λ e. c.if-eat.ensures.other (ap first_token_kind (sym c.if-eat.ensures.left) ∙ sym k ∙ e)),
       refl,
     ))) c.if-eat.ensures.left
 

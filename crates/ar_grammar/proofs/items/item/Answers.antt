@@ -1,5 +1,5 @@
 use Rattle.std.proofs.Common.{refl, sym, ap, ◌∙◌}
-use Rattle.expression_grammar.specs.Results.{kind_at}
+use Rattle.expression_grammar.specs.Results.{first_token_kind}
 use Rattle.expression_grammar.proofs.Finding.{finds_then, finds_fails, finds_given, finds_err, finds_ok, finds_token, finds_from, spans_then, spans_token, spans_expected, spans_from, eats_kind, follows_any}
 use Rattle.ar_grammar.proofs.ItemParts.{item_domain, item_class, item_block}
 use Rattle.ar_grammar.proofs.items.item.Goals as goal
@@ -38,8 +38,8 @@ returns-in_err-expect-clause-only c =
     finds_from (finds_given (finds_fails (c.in_err-expect.ensures.only _) c.from_residual-in_err-expect.ensures.1
     follows_any) (λ n next ts h s k. (
       item_block n next ts h
-          (λ e. c.if-is_at.ensures.no (ap kind_at (sym c.if-eat.ensures.left) ∙ sym k ∙ e))
-          (λ e. c.if-eat.ensures.other (ap kind_at (sym c.if-eat.ensures.left) ∙ sym k ∙ e)),
+          (λ e. c.if-is_at.ensures.no (ap first_token_kind (sym c.if-eat.ensures.left) ∙ sym k ∙ e))
+          (λ e. c.if-eat.ensures.other (ap first_token_kind (sym c.if-eat.ensures.left) ∙ sym k ∙ e)),
       refl,
     ))) c.if-eat.ensures.left
 
@@ -49,8 +49,8 @@ returns-in_err-block-clause-only c =
     (finds_err c.in_err-block.ensures.only c.from_residual-in_err-block.ensures.1) follows_any)
     (λ n next ts h s k. (
       item_block n next ts h
-          (λ e. c.if-is_at.ensures.no (ap kind_at (sym c.if-eat.ensures.left) ∙ sym k ∙ e))
-          (λ e. c.if-eat.ensures.other (ap kind_at (sym c.if-eat.ensures.left) ∙ sym k ∙ e)),
+          (λ e. c.if-is_at.ensures.no (ap first_token_kind (sym c.if-eat.ensures.left) ∙ sym k ∙ e))
+          (λ e. c.if-eat.ensures.other (ap first_token_kind (sym c.if-eat.ensures.left) ∙ sym k ∙ e)),
       refl,
     ))) c.if-eat.ensures.left
 
@@ -63,8 +63,8 @@ returns-clause-only c = finds_from (finds_given
     (finds_then (c.in_ok-expect.ensures.only _) (finds_ok _ c.in_ok-block.ensures.only) follows_any)
     (λ n next ts h s k. (
       item_block n next ts h
-          (λ e. c.if-is_at.ensures.no (ap kind_at (sym c.if-eat.ensures.left) ∙ sym k ∙ e))
-          (λ e. c.if-eat.ensures.other (ap kind_at (sym c.if-eat.ensures.left) ∙ sym k ∙ e)),
+          (λ e. c.if-is_at.ensures.no (ap first_token_kind (sym c.if-eat.ensures.left) ∙ sym k ∙ e))
+          (λ e. c.if-eat.ensures.other (ap first_token_kind (sym c.if-eat.ensures.left) ∙ sym k ∙ e)),
       refl,
     ))) c.if-eat.ensures.left
 

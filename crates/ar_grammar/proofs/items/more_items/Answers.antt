@@ -1,5 +1,5 @@
 use Rattle.std.proofs.Common.{◌≡◌, true, false, sym, ap, ◌∙◌}
-use Rattle.expression_grammar.specs.Results.{kind_at}
+use Rattle.expression_grammar.specs.Results.{first_token_kind}
 use Rattle.ar_grammar.specs.Results.{begins_item}
 use Rattle.expression_grammar.proofs.Finding.{finds_memory, loops_stop, loops_fail, loops_next, gathers_push, err_memory}
 use Rattle.ar_grammar.proofs.ItemParts.{item_begins, item_open, items_follow, item_shorter}
@@ -10,16 +10,16 @@ use Rattle.ar_grammar.proofs.ItemParts.{turns_item, unsigned_past}
 pub returns-in_err-item-clause-only : goal.returns-in_err-item-clause-only
 returns-in_err-item-clause-only c =
     loops_fail c.loop-parser.invariant.0.loops
-    (item_open (kind_at c.loop-parser.parser.rest.now) (ap begins_item (sym c.kind.ensures) ∙ sym c.loop-parser-test.ensures))
+    (item_open (first_token_kind c.loop-parser.parser.rest.now) (ap begins_item (sym c.kind.ensures) ∙ sym c.loop-parser-test.ensures))
     c.in_err-item.ensures.only c.from_residual.ensures.1 items_follow
 
 pub returns-in_err-put-clause-only : goal.returns-in_err-put-clause-only
-returns-in_err-put-clause-only c = let l = loops_next c.loop-parser.invariant.0.loops (item_open (kind_at c.loop-parser.parser.rest.now) (ap begins_item (sym c.kind.ensures) ∙ sym c.loop-parser-test.ensures)) c.in_ok-item.ensures.only items_follow in finds_memory l.front l.passed (err_memory _ _ c.from_residual-in_err-put.ensures.1 c.in_err-put.ensures.err)
+returns-in_err-put-clause-only c = let l = loops_next c.loop-parser.invariant.0.loops (item_open (first_token_kind c.loop-parser.parser.rest.now) (ap begins_item (sym c.kind.ensures) ∙ sym c.loop-parser-test.ensures)) c.in_ok-item.ensures.only items_follow in finds_memory l.front l.passed (err_memory _ _ c.from_residual-in_err-put.ensures.1 c.in_err-put.ensures.err)
 
 pub loop-parser-preserved : goal.loop-parser-preserved
 loop-parser-preserved c = (
   gathers_push c.loop-parser.invariant.0
-      (item_open (kind_at c.loop-parser.parser.rest.now) (ap begins_item (sym c.kind.ensures) ∙ sym c.loop-parser-test.ensures))
+      (item_open (first_token_kind c.loop-parser.parser.rest.now) (ap begins_item (sym c.kind.ensures) ∙ sym c.loop-parser-test.ensures))
       c.in_ok-item.ensures.found c.in_ok-item.ensures.only items_follow c.in_ok-put.ensures.items,
   unsigned_past
       c.in_ok-item.ensures.found c.loop-parser.invariant.1,

@@ -1,5 +1,5 @@
 use Rattle.std.proofs.Common.{refl, sym, ap, ◌∙◌}
-use Rattle.expression_grammar.specs.Results.{kind_at}
+use Rattle.expression_grammar.specs.Results.{first_token_kind}
 use Rattle.expression_grammar.proofs.Finding.{finds_given, finds_err, finds_ok, finds_token, finds_from, spans_token, spans_expected, spans_from, eats_kind}
 use Rattle.ar_grammar.proofs.MemberParts.{part_must}
 use Rattle.ar_grammar.proofs.members.must.Goals as goal
@@ -19,7 +19,7 @@ returns-in_err-expect-clause-only c =
     λ left. finds_from (finds_given (finds_err (c.in_err-expect.ensures.only left) c.from_residual.ensures.1)
     (λ n next ts h s k. (
       part_must next ts h
-          (λ e. c.if-eat.ensures.other (ap kind_at (sym c.if-eat.ensures.left) ∙ sym k ∙ e)),
+          (λ e. c.if-eat.ensures.other (ap first_token_kind (sym c.if-eat.ensures.left) ∙ sym k ∙ e)),
       refl,
     ))) c.if-eat.ensures.left
 
@@ -31,7 +31,7 @@ returns-clause-only c = λ left. finds_from
     (finds_given (finds_ok _ (c.in_ok-expect.ensures.only left))
     (λ n next ts h s k. (
       part_must next ts h
-          (λ e. c.if-eat.ensures.other (ap kind_at (sym c.if-eat.ensures.left) ∙ sym k ∙ e)),
+          (λ e. c.if-eat.ensures.other (ap first_token_kind (sym c.if-eat.ensures.left) ∙ sym k ∙ e)),
       refl,
     ))) c.if-eat.ensures.left
 

@@ -6,7 +6,7 @@ use Rattle.expression_grammar.specs.Texts.{expr_tokens}
 use Rattle.ar_grammar.specs.Texts.{setting_tokens}
 use Rattle.std.proofs.Common.{inr}
 use Rattle.ar_grammar.specs.Members.{ReadsSettings}
-use Rattle.expression_grammar.specs.Results.{kind_at, ends_expr, ends_list}
+use Rattle.expression_grammar.specs.Results.{first_token_kind, ends_expr, ends_list}
 use Rattle.expression_grammar.proofs.Finding.{finds_then, finds_fails, finds_given, finds_err, finds_ok, finds_memory, finds_nothing, spans_expected, follows_token, follows_any, err_memory}
 use Rattle.expression_grammar.proofs.PathForms.{pushed_more}
 use Rattle.ar_grammar.proofs.MemberParts.{separated_follow, list_end, settings_none, settings_parts, settings_made, turns_setting, some_setting}
@@ -24,7 +24,7 @@ returns-then-not-is_at-clause-found c =
     record {
       front = [];
       split = refl;
-      form = subst (λ (xs : List _). ReadsSettings c.args.left xs (kind_at c.args.parser.now.rest.now) [])
+      form = subst (λ (xs : List _). ReadsSettings c.args.left xs (first_token_kind c.args.parser.now.rest.now) [])
           (sym c.new.ensures.items) refl;
     }
 

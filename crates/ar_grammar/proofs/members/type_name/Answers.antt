@@ -3,7 +3,7 @@ use Rattle.ar_lexer.specs.declared.token.TokenKind.TheVariants.{Reserved}
 use Rattle.ar_lexer.specs.declared.words.TheConstants.{BOOLEAN, INTEGER}
 use Rattle.expression_grammar.specs.Words.{token}
 use Rattle.expression_grammar.specs.Paths.{ReadsName}
-use Rattle.expression_grammar.specs.Results.{kind_at}
+use Rattle.expression_grammar.specs.Results.{first_token_kind}
 use Rattle.expression_grammar.proofs.Finding.{finds_given, finds_err, finds_ok, finds_token, finds_from, spans_token, spans_from, eats_kind}
 use Rattle.expression_grammar.proofs.PathForms.{spans_name}
 use Rattle.ar_grammar.proofs.MemberParts.{stand_made, name_some, type_named}
@@ -36,8 +36,8 @@ returns-in_err-name-clause-only c =
     λ left. finds_from (finds_given (finds_err (c.in_err-name.ensures.only left) c.from_residual.ensures.1)
     (λ n next ts h s k. (
       type_named next ts h
-          (λ e. c.if-eat.ensures.other (ap kind_at (sym (c.if-eat-2.ensures.left ∙ c.if-eat.ensures.left)) ∙ sym k ∙ e))
-          (λ e. c.if-eat-2.ensures.other (ap kind_at (sym c.if-eat-2.ensures.left) ∙ sym k ∙ e)),
+          (λ e. c.if-eat.ensures.other (ap first_token_kind (sym (c.if-eat-2.ensures.left ∙ c.if-eat.ensures.left)) ∙ sym k ∙ e))
+          (λ e. c.if-eat-2.ensures.other (ap first_token_kind (sym c.if-eat-2.ensures.left) ∙ sym k ∙ e)),
       refl,
     )))
     (c.if-eat-2.ensures.left ∙ c.if-eat.ensures.left)
@@ -52,8 +52,8 @@ returns-clause-only c = λ left. finds_from
     (finds_given (finds_ok _ (c.in_ok-name.ensures.only left))
     (λ n next ts h s k. (
       type_named next ts h
-          (λ e. c.if-eat.ensures.other (ap kind_at (sym (c.if-eat-2.ensures.left ∙ c.if-eat.ensures.left)) ∙ sym k ∙ e))
-          (λ e. c.if-eat-2.ensures.other (ap kind_at (sym c.if-eat-2.ensures.left) ∙ sym k ∙ e)),
+          (λ e. c.if-eat.ensures.other (ap first_token_kind (sym (c.if-eat-2.ensures.left ∙ c.if-eat.ensures.left)) ∙ sym k ∙ e))
+          (λ e. c.if-eat-2.ensures.other (ap first_token_kind (sym c.if-eat-2.ensures.left) ∙ sym k ∙ e)),
       refl,
     )))
     (c.if-eat-2.ensures.left ∙ c.if-eat.ensures.left)

@@ -1,5 +1,5 @@
 use Rattle.std.proofs.Common.{refl, sym, ap, ◌∙◌}
-use Rattle.expression_grammar.specs.Results.{kind_at}
+use Rattle.expression_grammar.specs.Results.{first_token_kind}
 use Rattle.expression_grammar.proofs.Finding.{finds_given, finds_err, finds_ok, finds_token, finds_from, spans_token, spans_from, eats_kind}
 use Rattle.expression_grammar.proofs.PathForms.{spans_name}
 use Rattle.ar_grammar.proofs.MemberParts.{word_named}
@@ -28,8 +28,8 @@ returns-in_err-name-clause-only c =
     λ left. finds_from (finds_given (finds_err (c.in_err-name.ensures.only left) c.from_residual.ensures.1)
     (λ n next ts h s k. (
       word_named next ts h
-          (λ e. c.if-eat.ensures.other (ap kind_at (sym (c.if-eat-2.ensures.left ∙ c.if-eat.ensures.left)) ∙ sym k ∙ e))
-          (λ e. c.if-eat-2.ensures.other (ap kind_at (sym c.if-eat-2.ensures.left) ∙ sym k ∙ e)),
+          (λ e. c.if-eat.ensures.other (ap first_token_kind (sym (c.if-eat-2.ensures.left ∙ c.if-eat.ensures.left)) ∙ sym k ∙ e))
+          (λ e. c.if-eat-2.ensures.other (ap first_token_kind (sym c.if-eat-2.ensures.left) ∙ sym k ∙ e)),
       refl,
     )))
     (c.if-eat-2.ensures.left ∙ c.if-eat.ensures.left)
@@ -43,8 +43,8 @@ returns-clause-only c = λ left. finds_from
     (finds_given (finds_ok _ (c.in_ok-name.ensures.only left))
     (λ n next ts h s k. (
       word_named next ts h
-          (λ e. c.if-eat.ensures.other (ap kind_at (sym (c.if-eat-2.ensures.left ∙ c.if-eat.ensures.left)) ∙ sym k ∙ e))
-          (λ e. c.if-eat-2.ensures.other (ap kind_at (sym c.if-eat-2.ensures.left) ∙ sym k ∙ e)),
+          (λ e. c.if-eat.ensures.other (ap first_token_kind (sym (c.if-eat-2.ensures.left ∙ c.if-eat.ensures.left)) ∙ sym k ∙ e))
+          (λ e. c.if-eat-2.ensures.other (ap first_token_kind (sym c.if-eat-2.ensures.left) ∙ sym k ∙ e)),
       refl,
     )))
     (c.if-eat-2.ensures.left ∙ c.if-eat.ensures.left)

@@ -1,6 +1,6 @@
 use Rattle.std.proofs.Common.{refl, sym, ap, ◌∙◌}
 use Rattle.ar_grammar.specs.Members.{unread_piece}
-use Rattle.expression_grammar.specs.Results.{kind_at}
+use Rattle.expression_grammar.specs.Results.{first_token_kind}
 use Rattle.ar_grammar.specs.Results.{goes_unread}
 use Rattle.expression_grammar.proofs.Finding.{finds_then, finds_fails, finds_given, finds_err, finds_ok, finds_inside, finds_token, loops_stop, loops_fail, loops_next, spans_then, spans_expected, spans_map, follows_token, follows_any}
 use Rattle.ar_grammar.proofs.Finding.{finds_deep, many_push}
@@ -16,7 +16,7 @@ use Rattle.ar_grammar.specs.Parts.{unread_tokens}
 
 pub unread-returns-in_err-unread_piece-clause-only : goal.unread-returns-in_err-unread_piece-clause-only
 unread-returns-in_err-unread_piece-clause-only t c =
-    loops_fail c.loop-parser.invariant.1 (unread_open (kind_at c.loop-parser.parser.rest.now) (sym c.loop-parser-test.ensures))
+    loops_fail c.loop-parser.invariant.1 (unread_open (first_token_kind c.loop-parser.parser.rest.now) (sym c.loop-parser-test.ensures))
     c.in_err-unread_piece.ensures.only c.from_residual.ensures.1 follows_any
 
 pub unread-loop-parser-preserved : goal.unread-loop-parser-preserved
@@ -24,7 +24,7 @@ unread-loop-parser-preserved t c = (
   many_push (unread_piece c.args.left) c.loop-parser.invariant.0
       c.in_ok-unread_piece.ensures.found,
   loops_next c.loop-parser.invariant.1
-      (unread_open (kind_at c.loop-parser.parser.rest.now) (sym c.loop-parser-test.ensures)) c.in_ok-unread_piece.ensures.only
+      (unread_open (first_token_kind c.loop-parser.parser.rest.now) (sym c.loop-parser-test.ensures)) c.in_ok-unread_piece.ensures.only
       follows_any,
 )
 

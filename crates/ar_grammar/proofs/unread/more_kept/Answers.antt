@@ -1,6 +1,6 @@
 use Rattle.std.proofs.Common.{sym, ap, ◌∙◌}
 use Rattle.ar_grammar.specs.Members.{kept_piece}
-use Rattle.expression_grammar.specs.Results.{kind_at}
+use Rattle.expression_grammar.specs.Results.{first_token_kind}
 use Rattle.ar_grammar.specs.Results.{goes_kept}
 use Rattle.expression_grammar.proofs.Finding.{loops_stop, loops_fail, loops_next, follows_any}
 use Rattle.ar_grammar.proofs.Finding.{many_push}
@@ -11,13 +11,13 @@ use Rattle.ar_grammar.proofs.UnreadParts.{turns_many, turns_kept_piece}
 
 pub returns-in_err-kept_piece-clause-only : goal.returns-in_err-kept_piece-clause-only
 returns-in_err-kept_piece-clause-only c =
-    loops_fail c.loop-parser.invariant.1 (kept_open (kind_at c.loop-parser.parser.rest.now) (sym c.loop-parser-test.ensures))
+    loops_fail c.loop-parser.invariant.1 (kept_open (first_token_kind c.loop-parser.parser.rest.now) (sym c.loop-parser-test.ensures))
     c.in_err-kept_piece.ensures.only c.from_residual.ensures.1 follows_any
 
 pub loop-parser-preserved : goal.loop-parser-preserved
 loop-parser-preserved c = (
   many_push (kept_piece c.args.left) c.loop-parser.invariant.0 c.in_ok-kept_piece.ensures.found,
-  loops_next c.loop-parser.invariant.1 (kept_open (kind_at c.loop-parser.parser.rest.now) (sym c.loop-parser-test.ensures))
+  loops_next c.loop-parser.invariant.1 (kept_open (first_token_kind c.loop-parser.parser.rest.now) (sym c.loop-parser-test.ensures))
       c.in_ok-kept_piece.ensures.only follows_any,
 )
 

@@ -2,7 +2,7 @@ use Rattle.ar_meaning.proofs.FlatSystems.{flat_image, flat_back, names_back, key
 use Rattle.ar_meaning.proofs.ImageBoth.{same_facts, same_flows, same_ways, same_effects, same_steps, same_runs}
 use Rattle.ar_meaning.proofs.ImageTexts.{trace_there}
 use Rattle.ar_meaning.specs.FlatOf.{IsNumber}
-use Rattle.typed_expr.specs.PairsInside.{turned}
+use Rattle.typed_expr.specs.PairsInside.{turned_pairs}
 use Rattle.ar_base.proofs.Standing.{stands_one}
 use Rattle.ar_meaning.specs.Image.{Transition_renames}
 use Rattle.ar_meaning.proofs.ImageTurned.{along_turned}
@@ -35,14 +35,14 @@ returns-clause-runs g c = λ things sys flat f. same_runs (IsNumber things) sys 
 pub returns-clause-texts : goal.returns-clause-texts
 returns-clause-texts g c = λ things sys flat f names numbers alike ms text. (
   λ d. trace_there (IsNumber things) sys flat (flat_image things sys flat f) names numbers alike d,
-  λ d. trace_there (turned (IsNumber things)) flat sys (flat_back things sys flat f) numbers names
+  λ d. trace_there (turned_pairs (IsNumber things)) flat sys (flat_back things sys flat f) numbers names
       (names_back names numbers alike) d,
 )
 
 pub returns-clause-flat_keys : goal.returns-clause-flat_keys
 returns-clause-flat_keys g c = λ things sys flat f. (
   λ k. keyed_there (IsNumber things) sys.net flat.net (flat_image things sys flat f).net k,
-  λ k. keyed_there (turned (IsNumber things)) flat.net sys.net (flat_back things sys flat f).net k,
+  λ k. keyed_there (turned_pairs (IsNumber things)) flat.net sys.net (flat_back things sys flat f).net k,
 )
 
 pub returns-clause-numbers : goal.returns-clause-numbers
@@ -79,7 +79,7 @@ returns-clause-declared_leads_back g c = λ things keys ds es f e n k s. (
 
 pub returns-clause-declared_keys : goal.returns-clause-declared_keys
 returns-clause-declared_keys g c = λ things keys ds es f. (
-  λ k. keyed_back (turned (Transition_renames (IsNumber things))) (turned (IsNumber keys)) es ds
+  λ k. keyed_back (turned_pairs (Transition_renames (IsNumber things))) (turned_pairs (IsNumber keys)) es ds
       (along_turned (declared_turned (Transition_renames (IsNumber things)) (IsNumber keys)) f.events)
       (λ n x y r s. stands_one keys n x y r s) k,
   λ k. keyed_back (Transition_renames (IsNumber things)) (IsNumber keys) ds es f.events

@@ -1,6 +1,6 @@
 use Rattle.std.proofs.Common.{rules, inl, inr, sym, ◌∙◌, arith}
 use Rattle.aralia_text.specs.Texts.{gate_name}
-use Rattle.aralia_text.specs.Fronts.{IsStuck, IsBelowGate, Stops}
+use Rattle.aralia_text.specs.Fronts.{IsStuck, IsBelowGate, PathStops}
 use Rattle.aralia_text.proofs.Runs.{stop_len, len_stops}
 use Rattle.aralia_text.proofs.Stuck.{stuck_at_once}
 use Rattle.aralia_text.proofs.Numbers.{no_mark, stuck_at, read_at}
@@ -8,11 +8,11 @@ use Rattle.aralia_text.proofs.fronts.gate.Goals as goal
 use Rattle.aralia_text.proofs.fronts.gate.Goals.{then-n-eq0-via-then-n-eq0, then-n-eq0-via-else-n-eq0+then-run-gt0}
 
 pub returns-then-gates-eq0-clause-stuck : goal.returns-then-gates-eq0-clause-stuck
-returns-then-gates-eq0-clause-stuck c = stuck_at_once (IsBelowGate c.args.gates) gate_name Stops _ (λ a is. let z = c.if-gates-eq0.true in omega (arith, is, z))
+returns-then-gates-eq0-clause-stuck c = stuck_at_once (IsBelowGate c.args.gates) gate_name PathStops _ (λ a is. let z = c.if-gates-eq0.true in omega (arith, is, z))
 
 pub returns-in_err-behind-clause-stuck : goal.returns-in_err-behind-clause-stuck
 returns-in_err-behind-clause-stuck c =
-    let k : IsStuck (IsBelowGate c.args.gates) gate_name Stops c.args.rest.now c.in_err-behind.field-0.0.left =
+    let k : IsStuck (IsBelowGate c.args.gates) gate_name PathStops c.args.rest.now c.in_err-behind.field-0.0.left =
     no_mark c.args.gates _ _ (let z = c.if-gates-eq0.false in omega (arith, z)) c.in_err-behind.ensures.stuck in
     search rules
 

@@ -5,7 +5,7 @@ use Rattle.eq_core.specs.Gates as g
 use Rattle.eq_core.specs.declared.joints.Operand.{Operand}
 use Rattle.aralia_text.proofs.GateLines.{IsSoFar, no_first, no_joint, no_second, two_read, one_more, no_more, no_end, line_ends}
 use Rattle.aralia_text.specs.Texts.{operand_text, joint_text}
-use Rattle.aralia_text.specs.Fronts.{IsOperandAt, Stops, IsStuckIn}
+use Rattle.aralia_text.specs.Fronts.{IsOperandAt, PathStops, IsStuckIn}
 use Rattle.aralia_text.proofs.Results.{stop_is}
 use Rattle.aralia_text.proofs.Stuck.{no_prefix, prefixed_stuck, prefixed_read}
 use Rattle.aralia_text.proofs.gates.operands.Goals as goal
@@ -48,7 +48,7 @@ pub returns-in_err-after-clause-stuck : goal.returns-in_err-after-clause-stuck
 returns-in_err-after-clause-stuck c =
     stop_is _ c.from_residual-in_err-after.result c.in_err-after.field-0.0 c.from_residual-in_err-after.ensures.1
     (no_more _ _ _ _ _ _ c.loop-left.invariant (sym c.begins_with.ensures ∙ c.if-begins_with.false) _
-    (no_prefix (IsOperandAt c.args.gates c.args.names.now) (operand_text c.args.names.now) Stops
+    (no_prefix (IsOperandAt c.args.gates c.args.names.now) (operand_text c.args.names.now) PathStops
     (joint_text (all_needed c.in_ok-joint.joint)) c.loop-left.left.now c.requires.some.0 c.requires.some.1 _
     (subst (λ (z : List ℕ). IsStuckIn z c.loop-left.left.now c.in_err-after.field-0.0.left)
     (c.as_bytes.ensures.value ∙ c.between.ensures) c.in_err-after.ensures.stuck)))
@@ -57,7 +57,7 @@ pub returns-in_err-one-clause-stuck : goal.returns-in_err-one-clause-stuck
 returns-in_err-one-clause-stuck c =
     stop_is _ c.from_residual-in_err-one.result c.in_err-one.field-0.0 c.from_residual-in_err-one.ensures.1
     (no_more _ _ _ _ _ _ c.loop-left.invariant (sym c.begins_with.ensures ∙ c.if-begins_with.false) _
-    (prefixed_stuck (IsOperandAt c.args.gates c.args.names.now) (operand_text c.args.names.now) Stops
+    (prefixed_stuck (IsOperandAt c.args.gates c.args.names.now) (operand_text c.args.names.now) PathStops
     (joint_text (all_needed c.in_ok-joint.joint)) c.loop-left.left.now c.in_ok-after.after.now
     (c.in_ok-after.ensures.found ∙ ap (λ (z : List ℕ). z ++ c.in_ok-after.after.now)
     (c.as_bytes.ensures.value ∙ c.between.ensures)) c.requires.some.0 c.requires.some.1 _ c.in_err-one.ensures.stuck))
@@ -71,7 +71,7 @@ loop-left-preserved c =
     subst (λ (z : List g.Operand). IsSoFar c.args.gates c.args.names.now c.args.rest.now
     (all_needed c.in_ok-joint.joint) z c.in_ok-one.behind.now) (sym items)
     (one_more _ _ _ _ _ _ c.loop-left.invariant (sym c.begins_with.ensures ∙ c.if-begins_with.false) _ _
-    (prefixed_read (IsOperandAt c.args.gates c.args.names.now) (operand_text c.args.names.now) Stops
+    (prefixed_read (IsOperandAt c.args.gates c.args.names.now) (operand_text c.args.names.now) PathStops
     (joint_text (all_needed c.in_ok-joint.joint)) c.loop-left.left.now c.in_ok-after.after.now
     (c.in_ok-after.ensures.found ∙ ap (λ (z : List ℕ). z ++ c.in_ok-after.after.now)
     (c.as_bytes.ensures.value ∙ c.between.ensures)) (operand_of c.in_ok-one.one) c.in_ok-one.behind.now c.in_ok-one.ensures.found))

@@ -2,7 +2,7 @@ use Rattle.std.proofs.Common.{Option, OnOk, [], refl, sym, subst}
 use Rattle.class_table.specs.declared.tables.Owned.{Owned}
 use Rattle.hierarchy.specs.Listing.{form_of}
 use Rattle.bind_names.specs.Gathering.{AddsMembers}
-use Rattle.bind_names.specs.Ways.{AreMembers}
+use Rattle.bind_names.specs.Ways.{AreMembersOfUnit}
 use Rattle.bind_names.proofs.Gathered.{members_idle}
 use Rattle.bind_names.proofs.gathering.add_at.Goals as goal
 
@@ -28,4 +28,4 @@ returns-in-Some-Plain c = λ m units u st at mem.
     let same = e st.are.is_tree.table.table.holds.bodies in
     subst (λ (o : Option Owned). OnOk c.add.result (AddsMembers m units c.args.scopes.now.tree.now u (form_of o)
     c.args.events.now.items c.add.new.events.items)) same
-    (c.add.ensures m units u st at (subst (λ (o : Option Owned). AreMembers m u (form_of o)) (sym same) mem))
+    (c.add.ensures m units u st at (subst (λ (o : Option Owned). AreMembersOfUnit m u (form_of o)) (sym same) mem))

@@ -3,7 +3,7 @@ use Rattle.ar_base.proofs.Standing.{along_back, along_on}
 use Rattle.class_table.proofs.Taken.{item_stands}
 use Rattle.domains.specs.Domains.{Holds}
 use Rattle.domains.specs.declared.Value.{Value}
-use Rattle.gts_core.specs.Readings.{value_at}
+use Rattle.gts_core.specs.Readings.{valuation_at}
 use Rattle.hierarchy.specs.Listing.{variables}
 use Rattle.bind_values.specs.Values.{IsValue}
 use Rattle.bind_names.proofs.Varied.{bound_variable, sound_variable, value_found, along_at, first_none, first_next, first_all}
@@ -22,7 +22,7 @@ loop-place-preserved c = λ m units tied are pre.
     let w = along_back (variables m units) nodes tied.variables_are place c.node-item.result s in
     let values = c.args.values.now.variables.items in
     let v = along_on (variables m units) values are.variables_are place w.0 w.1 in
-    let e = c.value_at-value.ensures ∙ ap (λ (vs : List Value). value_at vs place) c.deref.ensures.value in
+    let e = c.value_at-value.ensures ∙ ap (λ (vs : List Value). valuation_at vs place) c.deref.ensures.value in
     let found = value_found values place v.0 v.1 in
     let value = subst (IsValue m w.0) (sym (e ∙ found)) v.2 in
     let held = subst (Holds c.node-item.result.domain) (sym (e ∙ found))

@@ -2,7 +2,7 @@ use Rattle.ar_base.proofs.Standing.{along_back}
 use Rattle.class_table.proofs.Taken.{item_stands}
 use Rattle.class_table.proofs.Looping.{loop_start, loop_next, loop_end}
 use Rattle.hierarchy.specs.Listing.{variables}
-use Rattle.bind_rules.specs.Breaking.{BreaksValue}
+use Rattle.bind_rules.specs.Breaking.{BreaksValueInForce}
 use Rattle.std.proofs.Common.{sym, subst}
 use Rattle.hierarchy.specs.Tie.{HasAttribute}
 use Rattle.hierarchy.specs.declared.tree.Attribute.{Attribute}
@@ -25,7 +25,7 @@ loop-node-preserved c =
           c.loop-node.node-index c.node-item.result s in
           let h = subst (λ (z : Attribute). HasAttribute m units a.0 z) (sym c.in_variable-test.ensures.value) a.2.value in
           loop_next _ _ _ _ _ _ _ s (c.loop-node.invariant.found m units are)
-          (thing_now (variables m units) (BreaksValue m c.args.rule) c.loop-node.node-index a.0
+          (thing_now (variables m units) (BreaksValueInForce m c.args.rule) c.loop-node.node-index a.0
           c.in_variable-test.result.2 a.1
           (test.place m units a.0 are (variable_scope m units a.0 c.node-item.result a.2 scope.Constants) h
           (variable_of_kind m units a.0 c.node-item.result a.2 c.in_variable-test.result.1
@@ -36,7 +36,7 @@ loop-node-preserved c =
 pub returns : goal.returns
 returns c = λ m units are.
     let l = rw c.deref-node-items.ensures.value at c.loop-node-test.false in
-    loop_end _ _ _ _ _ l (thing_to (variables m units) (BreaksValue m c.args.rule)
+    loop_end _ _ _ _ _ l (thing_to (variables m units) (BreaksValueInForce m c.args.rule)
     c.args.scopes.now.tree.now.variables.items are.is_tree.variables_are)
-    (thing_back (variables m units) (BreaksValue m c.args.rule) c.args.scopes.now.tree.now.variables.items
+    (thing_back (variables m units) (BreaksValueInForce m c.args.rule) c.args.scopes.now.tree.now.variables.items
     are.is_tree.variables_are) (c.loop-node.invariant.found m units are)

@@ -7,7 +7,7 @@ use Rattle.hierarchy.specs.Units.{UnitPath}
 use Rattle.hierarchy.specs.Listing.{variables}
 use Rattle.hierarchy.specs.declared.tree.VarNode.{VarNode}
 use Rattle.bind_scopes.specs.Scopes.{AreScopes}
-use Rattle.bind_rules.specs.Breaking.{BreaksValue}
+use Rattle.bind_rules.specs.Breaking.{BreaksValueInForce}
 use Rattle.bind_rules.specs.Testing.{IsTested}
 use Rattle.bind_rules.proofs.Valued.{BreaksAt}
 use Rattle.bind_rules.proofs.values.in_variables.Given as goal
@@ -16,7 +16,7 @@ abbrev pub invariant-loop-node : goal.invariant-loop-node
 invariant-loop-node l = record {
   found : (m : RootedModel) (units : List UnitPath) → AreScopes m units l.scopes
       → IsEarliest (Until (AtItem l.scopes.tree.now.variables.items
-      (λ (j : ℕ) (d : VarNode) (q : Place). BreaksAt (variables m units) (BreaksValue m l.rule) j q)) l.node-index)
+      (λ (j : ℕ) (d : VarNode) (q : Place). BreaksAt (variables m units) (BreaksValueInForce m l.rule) j q)) l.node-index)
       l.found;
   last : IfSome l.last (IsTested l.scopes l.rule);
 }

@@ -5,7 +5,7 @@ use Rattle.ar_base.specs.declared.places.Place.{Place}
 use Rattle.ar_base.proofs.Standing.{stands_get}
 use Rattle.class_table.specs.Members.{NamedMember, all_named}
 use Rattle.class_table.proofs.Taken.{take_next}
-use Rattle.bind_scopes.specs.Members.{AddsNames}
+use Rattle.bind_scopes.specs.Members.{AddsMemberNames}
 use Rattle.bind_scopes.proofs.NameSets.{adds_none, adds_more, all_next}
 use Rattle.bind_scopes.proofs.members.add_all.Goals as goal
 
@@ -19,11 +19,11 @@ loop-name-preserved c = λ s kind.
     let st = stands_get c.args.list.now c.loop-name.name-index none l in
     let e = ap (λ (ns : List (NameId × Place)). all_named s (Some kind) ns)
     (take_next c.args.list.now c.loop-name.name-index _ st) ∙ all_next s kind _ _ in
-    subst (λ (gs : List NamedMember). AddsNames c.args.body.n gs c.args.names.now c.add.new.names) (sym e)
+    subst (λ (gs : List NamedMember). AddsMemberNames c.args.body.n gs c.args.names.now c.add.new.names) (sym e)
     (adds_more c.args.body.n _ _ _ _ _ (c.loop-name.invariant s kind) (c.in_ok-add.ensures _ refl))
 
 pub returns : goal.returns
 returns c = λ s kind.
     let e = take_all c.loop-name.name-index c.args.list.now (omega arith) in
-    subst (λ (ns : List (NameId × Place)). AddsNames c.args.body.n (all_named s (Some kind) ns) c.args.names.now
+    subst (λ (ns : List (NameId × Place)). AddsMemberNames c.args.body.n (all_named s (Some kind) ns) c.args.names.now
     c.loop-name.names) e (c.loop-name.invariant s kind)

@@ -3,7 +3,7 @@ use Rattle.ar_base.proofs.Standing.{along_back, along_length}
 use Rattle.class_table.specs.Members.{Site, named_at}
 use Rattle.hierarchy.specs.UnitsInside.{names_in}
 use Rattle.class_table.proofs.Taken.{item_stands}
-use Rattle.bind_scopes.specs.Members.{AddsNames, HasFirst}
+use Rattle.bind_scopes.specs.Members.{AddsMemberNames, HasFirst}
 use Rattle.bind_scopes.proofs.NameSets.{first_none, first_more}
 use Rattle.bind_scopes.proofs.members.names_of_members.Goals as goal
 
@@ -19,10 +19,10 @@ loop-node-preserved c = λ m units tree.
     let w = along_back units nodes tree.units_are c.loop-node.node-index c.node-item.result s in
     let sites = c.members_of-sites.ensures m tree.table.table in
     let known = rw c.deref.ensures.value at c.in_ok-places.ensures in
-    let a = subst (λ (ss : List Site). AddsNames c.node-item.result.body.n (named_at m.declared ss) c.loop-node.names
+    let a = subst (λ (ss : List Site). AddsMemberNames c.node-item.result.body.n (named_at m.declared ss) c.loop-node.names
     c.add_sites.new.names) sites (c.in_ok-add_sites.ensures m.declared tree.table.table.holds known) in
     first_more m units c.loop-node.node-index w.0 w.1 c.loop-node.names c.add_sites.new.names
-    (subst (λ (k : ℕ). AddsNames k (names_in m k) c.loop-node.names c.add_sites.new.names) w.2.body a)
+    (subst (λ (k : ℕ). AddsMemberNames k (names_in m k) c.loop-node.names c.add_sites.new.names) w.2.body a)
     (c.loop-node.invariant m units tree)
 
 pub returns : goal.returns

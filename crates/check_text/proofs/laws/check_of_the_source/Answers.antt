@@ -24,12 +24,12 @@ use Rattle.mode_trees.specs.Views.{trees_of}
 use Rattle.mode_trees.specs.declared.forests.Edge.{Edge}
 use Rattle.mode_trees.specs.declared.forests.Forest.{Forest}
 use Rattle.min_cuts.specs.Lines.{AreInFiringOrder}
-use Rattle.job_inputs.specs.Chains.{cut_of, labels_of}
+use Rattle.job_inputs.specs.Chains.{cut_of, chain_labels}
 use Rattle.job_inputs.specs.CutLists.{CutLine}
 use Rattle.cut_check.specs.Flat.{chain_lines, IsVerdict}
 use Rattle.cut_check.specs.Verdicts.{IsSaid, IsMissing}
 use Rattle.cut_check.proofs.LawLemmas.{said_back, missing_there, missing_back}
-use Rattle.cut_text.specs.Printed.{edges_of, labels_in, things_of, IsForestOf}
+use Rattle.cut_text.specs.Printed.{forest_edges, labels_in, things_of, IsForestOf}
 use Rattle.cut_text.specs.Texts.{labels_text}
 use Rattle.cut_text.proofs.UpToOrder.{has_it, is_small, has_other}
 use Rattle.check_text.specs.Texts.{AreSaid, within_order, lines_in, said_lines, missing_lines, last_line}
@@ -72,26 +72,26 @@ missing_listed order p edges flat dropped other wanted lines ts sets lists liste
 module _ (x : Elaborated) (p : GtsParts) (flat : System ℕ) (dropped : List ℕ) (f : Forest)
     (one : (a b : System ℕ) → Views p a → Views p b → a ≡ b) (h : IsForestOf x p flat dropped f) where
   lines_along : {left orders : List (List ℕ)} → AreInFiringOrder (trees_of (λ n. n) f) left orders
-      → Along (IsLine x.system dropped) left (map (labels_in p (edges_of f.trees.items)) orders)
+      → Along (IsLine x.system dropped) left (map (labels_in p (forest_edges f.trees.items)) orders)
   lines_along l.none = l.none
   lines_along (l.one_and {a = s} {b = es} g gs) =
       l.one_and (source_set x p flat dropped f one h s es g) (lines_along gs)
 
   texts_are : (orders : List (List ℕ))
-      → missing_texts p (edges_of f.trees.items) orders
-      ≡ missing_lines (naming_of x.declarations) x.system (map (labels_in p (edges_of f.trees.items)) orders)
+      → missing_texts p (forest_edges f.trees.items) orders
+      ≡ missing_lines (naming_of x.declarations) x.system (map (labels_in p (forest_edges f.trees.items)) orders)
   texts_are [] = refl
   texts_are (es ∷ more) =
-      ap (λ (z : List ℕ). line (codes "missing " ++ z) ++ missing_texts p (edges_of f.trees.items) more)
+      ap (λ (z : List ℕ). line (codes "missing " ++ z) ++ missing_texts p (forest_edges f.trees.items) more)
       (text_is x p flat dropped f one h es)
       ∙ ap (λ (z : List ℕ). line (codes "missing " ++ labels_text (naming_of x.declarations) x.system
-      (labels_in p (edges_of f.trees.items) es)) ++ z) (texts_are more)
+      (labels_in p (forest_edges f.trees.items) es)) ++ z) (texts_are more)
 
 pub returns : goal.returns
 returns c = λ x p flat dropped f h observer other q wanted order sets lists listed g chains short verdicts shorts are.
     let one = c.one_system.ensures.one p in
     let things = things_of x in
-    let edges = edges_of f.trees.items in
+    let edges = forest_edges f.trees.items in
     let lines = chain_lines p short in
     let own = is_flat_of x p flat dropped f one h in
     let image = flat_image things x.system flat own in
@@ -106,7 +106,7 @@ returns c = λ x p flat dropped f h observer other q wanted order sets lists lis
       said = s.all;
       are_said = subst (λ (ls : List (List Label)). AreSaid x.system dropped observer wanted ls s.all) (sym same)
           (record {
-            long = s.long ∙ are.long ∙ sym (length-map short (λ (d : Chain). labels_of p d.ways.items));
+            long = s.long ∙ are.long ∙ sym (length-map short (λ (d : Chain). chain_labels p d.ways.items));
             each = λ n said st.
                 said_back (IsNumber things) x.system flat image dropped observer other q wanted lines n said
                 (subst (λ (z : ℕ). IsSaid flat dropped other wanted lines z said) (omega arith) (s.each n said st));

@@ -1,9 +1,9 @@
 use Rattle.std.proofs.Common.{◌≡◌, ◌++◌, drop, map}
-use Rattle.check_text.specs.Printed.{chains_within, parts_of}
+use Rattle.check_text.specs.Printed.{chains_within, chain_parts}
 use Rattle.check_text.proofs.short.short_chains.Given as goal
 
 -- the short ones so far, and those of the chains that are left
 abbrev pub invariant-loop-chain : goal.invariant-loop-chain
 invariant-loop-chain l =
-    (map parts_of l.short.items ++ map parts_of (chains_within l.order (drop l.chain-index l.chains)))
-    ≡ map parts_of (chains_within l.order l.chains)
+    (map chain_parts l.short.items ++ map chain_parts (chains_within l.order (drop l.chain-index l.chains)))
+    ≡ map chain_parts (chains_within l.order l.chains)

@@ -1,7 +1,7 @@
 use Rattle.std.proofs.Common.{take, subst, sym, arith}
 use Rattle.std.proofs.lemmas.List.{take_all}
 use Rattle.ar_base.proofs.Standing.{stands_get, one_here, along_length}
-use Rattle.class_table.specs.Listing.{AreListed}
+use Rattle.class_table.specs.Listing.{HaveMembersListed}
 use Rattle.class_table.proofs.Taken.{take_next}
 use Rattle.class_table.proofs.Listed.{none_listed, keeps_listed, all_listed, next_done}
 use Rattle.class_table.proofs.members.list_members.Goals as goal
@@ -36,12 +36,12 @@ loop-body-preserved c =
           let e = along_length c.loop-body.bodies d.bodies h.as_text in
           let m = c.in_ok-all.ensures d (take i order) (record { known = shown.known; listed = h })
           (next_done d order can i _ s) in
-          subst (AreListed d _) (sym (take_next order i _ s)) (keeps_listed d _ _ _ _ _ (omega (arith, l, e)) h m);
+          subst (HaveMembersListed d _) (sym (take_next order i _ s)) (keeps_listed d _ _ _ _ _ (omega (arith, l, e)) h m);
     }
 
 pub returns : goal.returns
 returns c = λ d shown can. all_listed d _ _ can
-    (subst (AreListed d c.loop-body.bodies) (take_all c.loop-body.body-index c.args.order.now (omega arith))
+    (subst (HaveMembersListed d c.loop-body.bodies) (take_all c.loop-body.body-index c.args.order.now (omega arith))
     (c.loop-body.invariant.listed d shown can))
 
 pub bounds-bodies-body : goal.bounds-bodies-body

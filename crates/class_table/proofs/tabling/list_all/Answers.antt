@@ -4,7 +4,7 @@ use Rattle.ar_base.specs.Stages.{Keeps}
 use Rattle.ar_base.proofs.Standing.{along_length}
 use Rattle.class_table.specs.Declaring.{Declared}
 use Rattle.class_table.specs.Listing.{CanList}
-use Rattle.class_table.specs.Shown.{IsListed}
+use Rattle.class_table.specs.Shown.{AreMembersListed}
 use Rattle.class_table.specs.Rules.{BreaksTextRule}
 use Rattle.class_table.proofs.Answering.{answers4, refuses2, passes2, refuses3, passes3, can_list, refused_later, shows_kept, meets_err}
 use Rattle.class_table.proofs.Nesting.{inside_there}
@@ -41,7 +41,7 @@ returns-in_err-keep c = λ model main d h below.
     let t = refuses2 model main d _ _ below (c.first_misnamed.ensures d s) c.in_err-keep.ensures in
     let r = err_from_is_err_and c.from_residual-in_err-keep.result c.from_residual-in_err-keep.ensures.1 in
     meets_err (Keeps (1 ∷ 2 ∷ 3 ∷ 4 ∷ []) (BreaksTextRule model main))
-    (λ (e : Declared) (u : Unit {0}). IsListed e c.args.bodies.now) d _ _ (r.1 ∙ ap (λ e. Err e) r.2) (refused_later model main d _ t)
+    (λ (e : Declared) (u : Unit {0}). AreMembersListed e c.args.bodies.now) d _ _ (r.1 ∙ ap (λ e. Err e) r.2) (refused_later model main d _ t)
 
 pub returns-in_err-keep-2 : goal.returns-in_err-keep-2
 returns-in_err-keep-2 c = λ model main d h below.
@@ -52,7 +52,7 @@ returns-in_err-keep-2 c = λ model main d h below.
     let t = refuses3 model main d _ _ k (f d _ s i c.in_ok-order.ensures) c.in_err-keep-2.ensures in
     let r = err_from_is_err_and c.from_residual-in_err-keep-2.result c.from_residual-in_err-keep-2.ensures.1 in
     meets_err (Keeps (1 ∷ 2 ∷ 3 ∷ 4 ∷ []) (BreaksTextRule model main))
-    (λ (e : Declared) (u : Unit {0}). IsListed e c.args.bodies.now) d _ _ (r.1 ∙ ap (λ e. Err e) r.2) (refused_later model main d _ t)
+    (λ (e : Declared) (u : Unit {0}). AreMembersListed e c.args.bodies.now) d _ _ (r.1 ∙ ap (λ e. Err e) r.2) (refused_later model main d _ t)
 
 pub returns : goal.returns
 returns c = λ model main d h below.

@@ -2,7 +2,7 @@ use Rattle.std.proofs.Common.{◌≡◌, map, length, option_map, ◌∙◌, sym
 use Rattle.std.proofs.lemmas.List.{take_at}
 use Rattle.std.proofs.lemmas.Result.{err_from_is_err_and}
 use Rattle.ar_base.specs.Numbers.{BodyId}
-use Rattle.class_table.specs.Shown.{IsListed}
+use Rattle.class_table.specs.Shown.{AreMembersListed}
 use Rattle.class_table.specs.Tabling.{Tabulates}
 use Rattle.class_table.specs.declared.tables.Classes.{Classes}
 use Rattle.class_table.proofs.Answering.{declared_of, declares, given_parts, given_kept, keeps_parts, blocks_parts, first_kept, refused_apart, refused_table, passed_all, refuses5, gives, table_of, meets_err, meets_ok, lacks}
@@ -56,7 +56,7 @@ returns-in_default c =
     let p = passed_all c.args.model main d _ l.0 l.1 l.2 in
     let e : length c.list_all.new.bodies ≡ c.in_ok-declared.declared.bodies.len =
     (let x = c.list_all.auto.bodies in let y = c.in_ok-declared.declared.bodies.ok.0 in let z = ap length c.deref_mut.ensures.value in omega arith) in
-    let shown = subst (IsListed d) (sym (c.deref-2.ensures.value ∙ take_at c.list_all.new.bodies _ _ e)) p.1 in
+    let shown = subst (AreMembersListed d) (sym (c.deref-2.ensures.value ∙ take_at c.list_all.new.bodies _ _ e)) p.1 in
     let blocks = ap (map (λ (x : BodyId). x.n)) c.deref-3.ensures.value ∙ blocks_parts c.args.model _ a in
     refuses5 c.args.model main d (declares c.args.model _ a) p.0
     (lacks c.main_block.result (none_of c.main_block.result c.in_default.not-Some)
@@ -73,8 +73,8 @@ returns c =
     let p = passed_all c.args.model main d _ l.0 l.1 l.2 in
     let e : length c.list_all.new.bodies ≡ c.in_ok-declared.declared.bodies.len =
     (let x = c.list_all.auto.bodies in let y = c.in_ok-declared.declared.bodies.ok.0 in let z = ap length c.deref_mut.ensures.value in omega arith) in
-    let shown = subst (IsListed d) (sym (c.deref-2.ensures.value ∙ take_at c.list_all.new.bodies _ _ e)) p.1 in
+    let shown = subst (AreMembersListed d) (sym (c.deref-2.ensures.value ∙ take_at c.list_all.new.bodies _ _ e)) p.1 in
     let blocks = ap (map (λ (x : BodyId). x.n)) c.deref-3.ensures.value ∙ blocks_parts c.args.model _ a in
     let is_main = c.in-Some.ensures.some d shown.as_text blocks in
     meets_ok c.args.model main _ (gives c.args.model main d _ p.0
-    (table_of c.args.model _ a _ _ refl refl refl (subst (IsListed d) c.deref-2.ensures.value shown) is_main))
+    (table_of c.args.model _ a _ _ refl refl refl (subst (AreMembersListed d) c.deref-2.ensures.value shown) is_main))

@@ -9,16 +9,16 @@ use Rattle.eq_core.specs.Values.{value_at}
 use Rattle.eq_core.specs.ValuesInside.{IsBelow}
 use Rattle.eq_core.specs.Views.{gate_of, operand_of}
 use Rattle.eq_core.proofs.Telling.{place_below}
-use Rattle.least_families.specs.Held.{IsSound}
+use Rattle.least_families.specs.Held.{AreLeastHeld}
 use Rattle.least_families.proofs.Held.{sound_none}
-use Rattle.coherent_cuts.specs.Gates.{AreTabled, EachTabled, IsTabled, HasLeastFirable}
+use Rattle.coherent_cuts.specs.Gates.{AreTabledOperands, EachTabled, IsTabled, HasLeastFirable}
 use Rattle.coherent_cuts.proofs.Folding.{IsMaking, making_begins, making_next, gate_tabled, gate_plain, root_tabled, family_kept}
 use Rattle.coherent_cuts.proofs.Listing.{least_firable}
 use Rattle.coherent_cuts.proofs.cuts.least_cuts.Goals as goal
 
 pub loop-number-init : goal.loop-number-init
 loop-number-init c = (
-  subst (λ z. IsSound z c.new-ops.result.families) (sym c.new-memo.ensures) (sound_none c.new-ops.result.families),
+  subst (λ z. AreLeastHeld z c.new-ops.result.families) (sym c.new-memo.ensures) (sound_none c.new-ops.result.families),
   subst (λ z. IsMaking c.args.order c.args.trees.now (map gate_of c.args.gates.now) c.in_ok-marks.marks.items 0 z
       c.new-ops.result) (sym c.new-table.ensures.items)
       (making_begins c.args.order c.args.trees.now (map gate_of c.args.gates.now) c.in_ok-marks.marks.items
@@ -27,7 +27,7 @@ loop-number-init c = (
 
 pub marked_family-requires-clause-table : goal.marked_family-requires-clause-table
 marked_family-requires-clause-table c =
-    subst (λ z. AreTabled z c.loop-number.ops) (sym c.deref.ensures.value) c.loop-number.invariant.1.numbers
+    subst (λ z. AreTabledOperands z c.loop-number.ops) (sym c.deref.ensures.value) c.loop-number.invariant.1.numbers
 
 pub marked_family-requires-clause-below : goal.marked_family-requires-clause-below
 marked_family-requires-clause-below c =

@@ -5,7 +5,7 @@ use Rattle.ar_base.proofs.Results.{ok_map}
 use Rattle.zdd_nodes.specs.Nodes.{family}
 use Rattle.diagram_steps.specs.Trees.{edges_of}
 use Rattle.diagram_steps.proofs.Growing.{extends_none, extends_then}
-use Rattle.mode_diagrams.specs.Sets.{HasPath}
+use Rattle.mode_diagrams.specs.Sets.{HasPathEvents}
 use Rattle.mode_diagrams.proofs.Pathing.{path_none, path_more}
 use Rattle.coherent_cuts.proofs.paths.+path_to.Goals as goal
 
@@ -14,7 +14,7 @@ returns-then-mode-eq0-clause-grows t c = extends_none c.args.ops.now
 
 pub returns-then-mode-eq0-clause-path : goal.returns-then-mode-eq0-clause-path
 returns-then-mode-eq0-clause-path t c =
-    subst (HasPath (edges_of c.args.tree.now) c.args.mode ([] ∷ [])) (sym (ap (family c.args.ops.now) c.new.ensures))
+    subst (HasPathEvents (edges_of c.args.tree.now) c.args.mode ([] ∷ [])) (sym (ap (family c.args.ops.now) c.new.ensures))
     (path_none (edges_of c.args.tree.now) c.args.mode ([] ∷ []) c.if-mode-eq0.true)
 
 pub path_to-requires : goal.path_to-requires

@@ -5,8 +5,8 @@ use Rattle.gts_core.specs.View.{numbered}
 use Rattle.gts_core.specs.declared.system.GtsParts.{GtsParts}
 use Rattle.gts_core.specs.declared.system.Observer.{Observer}
 use Rattle.text_pieces.proofs.Ways.{read_stands}
-use Rattle.cut_check.specs.Flat.{numbers_of, chain_lines}
-use Rattle.cut_check.specs.Rows.{AreRows, HaveBits, AreWide}
+use Rattle.cut_check.specs.Flat.{flat_event_numbers, chain_lines}
+use Rattle.cut_check.specs.Rows.{AreLineRows, HaveBits, AreWide}
 use Rattle.cut_check.specs.Truths.{AreTruths}
 use Rattle.cut_check.specs.declared.rows.Row.{Row}
 use Rattle.cut_check.proofs.HoldLemmas.{verdicts_more}
@@ -15,14 +15,14 @@ use Rattle.cut_check.proofs.checking.verdicts.Goals as goal
 
 pub true_lines-requires-clause-rows : goal.true_lines-requires-clause-rows
 true_lines-requires-clause-rows c =
-    let rows = rows_are c.args.gts.now c.parts-parts.result.now (numbers_of c.args.dropped.now) c.args.chains.now
+    let rows = rows_are c.args.gts.now c.parts-parts.result.now (flat_event_numbers c.args.dropped.now) c.args.chains.now
     c.in_ok-allowed.allowed.items c.deref.result.now c.in_ok-rows.rows.items c.parts-parts.ensures.parts
     c.deref.ensures.value c.in_ok-allowed.ensures c.in_ok-rows.ensures in
     ap length c.deref-2.ensures.value ∙ rows.long
 
 pub verdict_of-requires-clause-rows : goal.verdict_of-requires-clause-rows
 verdict_of-requires-clause-rows c =
-    let rows = rows_are c.args.gts.now c.parts-parts.result.now (numbers_of c.args.dropped.now) c.args.chains.now
+    let rows = rows_are c.args.gts.now c.parts-parts.result.now (flat_event_numbers c.args.dropped.now) c.args.chains.now
     c.in_ok-allowed.allowed.items c.deref.result.now c.in_ok-rows.rows.items c.parts-parts.ensures.parts
     c.deref.ensures.value c.in_ok-allowed.ensures c.in_ok-rows.ensures in
     ap length c.deref-in-loop-n.ensures.value ∙ rows.long
@@ -30,7 +30,7 @@ verdict_of-requires-clause-rows c =
 pub verdict_of-requires-clause-wide : goal.verdict_of-requires-clause-wide
 verdict_of-requires-clause-wide c =
     let p = c.args.gts.now in
-    let ds = numbers_of c.args.dropped.now in
+    let ds = flat_event_numbers c.args.dropped.now in
     let rows = rows_are p c.parts-parts.result.now ds c.args.chains.now c.in_ok-allowed.allowed.items c.deref.result.now
     c.in_ok-rows.rows.items c.parts-parts.ensures.parts c.deref.ensures.value c.in_ok-allowed.ensures
     c.in_ok-rows.ensures in
@@ -41,14 +41,14 @@ pub loop-n-preserved : goal.loop-n-preserved
 loop-n-preserved c =
     let p = c.args.gts.now in
     let q = c.parts-parts.result.now in
-    let ds = numbers_of c.args.dropped.now in
+    let ds = flat_event_numbers c.args.dropped.now in
     let chains = c.args.chains.now in
     let lines = chain_lines p chains in
     let rows = rows_are p q ds chains c.in_ok-allowed.allowed.items c.deref.result.now c.in_ok-rows.rows.items
     c.parts-parts.ensures.parts c.deref.ensures.value c.in_ok-allowed.ensures c.in_ok-rows.ensures in
     let have = subst (λ (z : List Row). HaveBits lines z) (sym c.deref-in-loop-n.ensures.value)
     (have_bits p ds chains c.in_ok-rows.rows.items rows) in
-    let own = subst (λ (z : List Row). AreRows p ds chains z) (sym c.deref-2.ensures.value) rows in
+    let own = subst (λ (z : List Row). AreLineRows p ds chains z) (sym c.deref-2.ensures.value) rows in
     record {
       long = omega (
         arith,

@@ -2,7 +2,7 @@ use Rattle.std.proofs.Common.{◌∙◌, ◌∷◌, [], List, get_or, length, ap
 use Rattle.ar_base.specs.Numbers.{WayId}
 use Rattle.ar_base.proofs.Standing.{stands_get, stands_item}
 use Rattle.gts_core.specs.View.{numbered}
-use Rattle.job_inputs.specs.Chains.{labels_of}
+use Rattle.job_inputs.specs.Chains.{chain_labels}
 use Rattle.job_inputs.specs.CutReads.{AreKnownWays}
 use Rattle.cut_check.specs.Flat.{chain_lines}
 use Rattle.cut_check.proofs.RowLemmas.{chain_known}
@@ -53,7 +53,7 @@ loop-n-preserved c =
           (c.loop-n.invariant.fired system views dropped are);
       truths = λ system views dropped are.
           truths_more system dropped (numbered c.args.observer.now.value) c.args.wanted (chain_lines p chains)
-          c.loop-n.truths.items _ c.in_ok-is.is' (labels_of p c.deref.result.now) c.in_ok-push.ensures.items
+          c.loop-n.truths.items _ c.in_ok-is.is' (chain_labels p c.deref.result.now) c.in_ok-push.ensures.items
           (line_stands p chains n (length c.loop-n.truths.items) d c.deref.result.now at_d c.deref.ensures.value
           c.loop-n.invariant.long)
           (c.in_ok-is.ensures.answer system views dropped

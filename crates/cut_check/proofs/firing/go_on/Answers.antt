@@ -7,8 +7,8 @@ use Rattle.ar_firing.specs.Fragment.{IsOpen}
 use Rattle.ar_firing.specs.Replays.{AreOpen}
 use Rattle.ar_meaning.specs.Systems.{System, Way}
 use Rattle.gts_core.specs.declared.system.GtsParts.{GtsParts}
-use Rattle.job_inputs.specs.Chains.{labels_of}
-use Rattle.text_pieces.specs.WayLabels.{label_of}
+use Rattle.job_inputs.specs.Chains.{chain_labels}
+use Rattle.text_pieces.specs.WayLabels.{numbered_label}
 use Rattle.cut_check.proofs.RowLemmas.{known_at}
 use Rattle.cut_check.proofs.TruthLemmas.{stops_all}
 use Rattle.cut_check.proofs.firing.go_on.Goals as goal
@@ -19,11 +19,11 @@ none = record { n = 0; of = record {} }
 
 -- the way at a place is open
 open_at : (p : GtsParts) (system : System ℕ) (dropped : List ℕ) (ways : List WayId) (n : ℕ) → n < length ways
-    → AreOpen system dropped (labels_of p ways)
-    → (w : Way ℕ) × IsOpen system dropped (label_of p (get_or ways n none).n) w
+    → AreOpen system dropped (chain_labels p ways)
+    → (w : Way ℕ) × IsOpen system dropped (numbered_label p (get_or ways n none).n) w
 open_at p system dropped ways n lt op =
-    op.each n (label_of p (get_or ways n none).n)
-    (stands_map (λ (v : WayId). label_of p v.n) ways n (get_or ways n none) (stands_get ways n none lt))
+    op.each n (numbered_label p (get_or ways n none).n)
+    (stands_map (λ (v : WayId). numbered_label p v.n) ways n (get_or ways n none) (stands_get ways n none lt))
 
 pub fire-requires-clause-known : goal.fire-requires-clause-known
 fire-requires-clause-known c =
@@ -49,7 +49,7 @@ returns-then-not-done-clause-stops c = λ system views dropped op h e t r.
     stops_all p system dropped ways n none lt
     (λ u q. c.in_ok-done.ensures.stops system views dropped (c.loop-fired.invariant.fired system views dropped op h)
     c.if-not-done.true u
-    (subst (λ (z : List WayId). Reaches system dropped (label_of p (get_or ways n none).n ∷ reverse (labels_of p z)) u)
+    (subst (λ (z : List WayId). Reaches system dropped (numbered_label p (get_or ways n none).n ∷ reverse (chain_labels p z)) u)
     front q)) t r
 
 pub loop-fired-preserved : goal.loop-fired-preserved

@@ -6,7 +6,7 @@ use Rattle.cut_check.proofs.ListedLemmas.{events_more, event_there, within_more}
 use Rattle.cut_check.proofs.RowLemmas.{event_read, known_at}
 use Rattle.std.proofs.Common.{subst}
 use Rattle.ar_base.specs.Lists.{IsOneOf}
-use Rattle.cut_check.specs.Flat.{numbers_of}
+use Rattle.cut_check.specs.Flat.{flat_event_numbers}
 use Rattle.cut_check.proofs.listed.are_among.Goals as goal
 
 -- what is read past the end
@@ -40,5 +40,5 @@ loop-way-preserved c =
     let k = known_at p ways i (get_or ways i none) c.requires (stands_get ways i none c.loop-way-test.true) in
     let s = read_stands p.ways.items (get_or ways i none).n c.index.result.now k c.index.ensures in
     within_more _ _ _ _ (events_more p ways i none c.loop-way-test.true)
-    (subst (λ (z : ℕ). IsOneOf (numbers_of c.args.cut.now) z) (event_read p (get_or ways i none).n c.index.result.now s)
+    (subst (λ (z : ℕ). IsOneOf (flat_event_numbers c.args.cut.now) z) (event_read p (get_or ways i none).n c.index.result.now s)
     c.if-not-is_among.ensures) c.loop-way.invariant

@@ -1,6 +1,6 @@
 use Rattle.std.proofs.Common.{ℕ, List, subst}
 use Rattle.ar_base.proofs.Standing.{stands_item}
-use Rattle.cut_check.specs.Flat.{numbers_of}
+use Rattle.cut_check.specs.Flat.{flat_event_numbers}
 use Rattle.cut_check.proofs.LookupLemmas.{IsRowOf, is_listed_row, no_row_more, not_listed_rows}
 use Rattle.cut_check.proofs.lookup.is_any.Goals as goal
 use Rattle.cut_check.proofs.lookup.is_any.Goals.{else-is_within-via-then-is_within+else-has_all_bits, else-is_within-via-else-is_within}
@@ -8,7 +8,7 @@ use Rattle.cut_check.proofs.lookup.is_any.Goals.{else-is_within-via-then-is_with
 pub returns-then-has_all_bits : goal.returns-then-has_all_bits
 returns-then-has_all_bits c = λ lines have bits.
     let rows = c.args.rows.now in
-    let set = numbers_of c.args.events.now in
+    let set = flat_event_numbers c.args.events.now in
     let asked = c.args.asked.now in
     let i = c.loop-row.row-index in
     let r = c.row-item.result in
@@ -18,7 +18,7 @@ returns-then-has_all_bits c = λ lines have bits.
 pub loop-row-preserved : goal.loop-row-preserved
 loop-row-preserved c = λ lines have bits.
     let rows = c.args.rows.now in
-    let set = numbers_of c.args.events.now in
+    let set = flat_event_numbers c.args.events.now in
     let asked = c.args.asked.now in
     let i = c.loop-row.row-index in
     let r = c.row-item.result in
@@ -32,5 +32,5 @@ loop-row-preserved c = λ lines have bits.
 
 pub returns : goal.returns
 returns c = λ lines have bits.
-    not_listed_rows lines c.args.rows.now have c.args.asked.now (numbers_of c.args.events.now) bits
+    not_listed_rows lines c.args.rows.now have c.args.asked.now (flat_event_numbers c.args.events.now) bits
     c.loop-row.row-index c.loop-row-test.false (c.loop-row.invariant lines have bits)

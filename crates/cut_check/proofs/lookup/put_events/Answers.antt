@@ -1,7 +1,7 @@
 use Rattle.std.proofs.Common.{get_or, arith}
 use Rattle.ar_base.specs.NumbersInside.{EventId}
 use Rattle.ar_base.proofs.Standing.{one_here, one_none, stands_get, stands_map}
-use Rattle.cut_check.specs.Flat.{numbers_of}
+use Rattle.cut_check.specs.Flat.{flat_event_numbers}
 use Rattle.cut_check.proofs.LookupLemmas.{put_more}
 use Rattle.cut_check.proofs.lookup.put_events.Goals as goal
 
@@ -17,7 +17,7 @@ set-requires c =
     let es = c.args.events.now in
     let i = c.loop-event.event-index in
     let k = c.requires (get_or es i none).n
-    (one_here (numbers_of es) i (get_or es i none).n
+    (one_here (flat_event_numbers es) i (get_or es i none).n
     (stands_map (λ (e : EventId). e.n) es i (get_or es i none) (stands_get es i none c.loop-event-test.true))) in
     omega (arith, k)
 

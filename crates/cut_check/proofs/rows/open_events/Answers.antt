@@ -1,7 +1,7 @@
 use Rattle.std.proofs.Common.{ℕ, List, get_or, set, take, false, refl, sym, subst, arith}
 use Rattle.ar_base.specs.NumbersInside.{EventId}
 use Rattle.ar_base.proofs.Standing.{one_here, stands_get}
-use Rattle.cut_check.specs.Flat.{numbers_of}
+use Rattle.cut_check.specs.Flat.{flat_event_numbers}
 use Rattle.cut_check.specs.Rows.{AreOpenEvents}
 use Rattle.cut_check.proofs.ListedLemmas.{numbers_more}
 use Rattle.cut_check.proofs.RowLemmas.{all_visible, drop_more}
@@ -30,5 +30,5 @@ loop-event-preserved c =
     (one_here ds i (get_or ds i none) (stands_get ds i none c.loop-event-test.true)) in
     subst (λ (z : List ℕ). AreOpenEvents c.args.parts.now z (set c.loop-event.allowed.items (get_or ds i none).n false))
     (sym (numbers_more ds i none c.loop-event-test.true))
-    (drop_more c.args.parts.now (numbers_of (take i ds)) (get_or ds i none).n c.loop-event.allowed.items _ refl
+    (drop_more c.args.parts.now (flat_event_numbers (take i ds)) (get_or ds i none).n c.loop-event.allowed.items _ refl
     (omega (arith, k, c.loop-event.invariant.long)) c.loop-event.invariant)

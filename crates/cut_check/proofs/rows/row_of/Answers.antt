@@ -2,8 +2,8 @@ use Rattle.std.proofs.Common.{◌≡◌, ◌∙◌, List, get_or, take, subst, a
 use Rattle.std.proofs.lemmas.List.{take_all}
 use Rattle.ar_base.specs.Numbers.{WayId}
 use Rattle.ar_base.proofs.Standing.{stands_get}
-use Rattle.job_inputs.specs.Chains.{labels_of}
-use Rattle.text_pieces.specs.WayLabels.{label_of}
+use Rattle.job_inputs.specs.Chains.{chain_labels}
+use Rattle.text_pieces.specs.WayLabels.{numbered_label}
 use Rattle.text_pieces.proofs.Ways.{read_stands}
 use Rattle.cut_check.specs.Rows.{IsRow}
 use Rattle.cut_check.proofs.ListedLemmas.{labels_more}
@@ -54,7 +54,7 @@ loop-way-preserved c =
     record {
       long = c.add.ensures.long ∙ c.loop-way.invariant.long;
       row = λ dropped table.
-          row_more p dropped c.args.allowed.now table (labels_of p (take i ways)) _ (label_of p (get_or ways i none).n)
+          row_more p dropped c.args.allowed.now table (chain_labels p (take i ways)) _ (numbered_label p (get_or ways i none).n)
           c.index.result.now.event.n c.loop-way.row c.add.new.row
           (labels_more p ways i none c.loop-way-test.true) (event_read p (get_or ways i none).n c.index.result.now s)
           (omega (arith, lt, c.requires.allowed))
@@ -65,5 +65,5 @@ pub returns : goal.returns
 returns c = λ dropped table.
     let e : take c.loop-way.way-index c.args.ways.now ≡ c.args.ways.now =
     take_all c.loop-way.way-index c.args.ways.now (omega (arith, c.loop-way-test.false)) in
-    subst (λ (z : List WayId). IsRow c.args.parts.now dropped (labels_of c.args.parts.now z) c.loop-way.row) e
+    subst (λ (z : List WayId). IsRow c.args.parts.now dropped (chain_labels c.args.parts.now z) c.loop-way.row) e
     (c.loop-way.invariant.row dropped table)

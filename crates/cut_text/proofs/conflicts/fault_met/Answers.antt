@@ -8,7 +8,7 @@ use Rattle.ar_meaning.specs.Steps as steps
 use Rattle.ar_meaning.specs.Runs.{Label}
 use Rattle.gts_core.specs.View.{IsWayAt, net_of}
 use Rattle.gts_core.specs.declared.system.GtsParts.{GtsParts}
-use Rattle.min_cuts.specs.Kept.{numbers}
+use Rattle.min_cuts.specs.Kept.{numbers_of_set}
 use Rattle.stepper.specs.Steps.{IsStepFault, IsStartFault}
 use Rattle.text_pieces.proofs.Ranges.{flows_inside, fire_inside}
 use Rattle.cut_text.specs.Tables.{labels_at}
@@ -29,7 +29,7 @@ returns-in-Err-Flow-clause-range c =
 pub returns-in-Err-Flow-clause-met : goal.returns-in-Err-Flow-clause-met
 returns-in-Err-Flow-clause-met c = λ system views dropped fault h.
     at_start c.args.gts.now c.parts-sound_parts.ensures.sound system views dropped
-    (labels_at c.args.gts.now c.args.ways.now (numbers c.args.events.now)) fault c.in-Err-Flow.fault
+    (labels_at c.args.gts.now c.args.ways.now (numbers_of_set c.args.events.now)) fault c.in-Err-Flow.fault
     (subst (IsStartFault (net_of c.args.gts.now)) c.in-Err-Flow.field-0-is c.in-Err-Flow.ensures.fault) h
 
 pub loop-event-init : goal.loop-event-init
@@ -70,7 +70,7 @@ returns-in-Err-clause-met c = λ system views dropped fault h.
     let p : GtsParts = c.args.gts.now in
     let i : ℕ = c.loop-event.event-index in
     let n : ℕ = way_now c.args.ways.now c.args.events.now i in
-    let all : List Label = labels_at p c.args.ways.now (numbers c.args.events.now) in
+    let all : List Label = labels_at p c.args.ways.now (numbers_of_set c.args.events.now) in
     let inside = here_inside p c.args.ways.now c.args.events.now i (record { n = 0; of = record {} })
     (record { n = 0; of = record {} }) c.requires c.loop-event-test.true in
     let t : List Value = c.loop-event.stepper.values in
@@ -89,7 +89,7 @@ loop-event-preserved c = (
       let p : GtsParts = c.args.gts.now in
       let i : ℕ = c.loop-event.event-index in
       let n : ℕ = way_now c.args.ways.now c.args.events.now i in
-      let all : List Label = labels_at p c.args.ways.now (numbers c.args.events.now) in
+      let all : List Label = labels_at p c.args.ways.now (numbers_of_set c.args.events.now) in
       let inside = here_inside p c.args.ways.now c.args.events.now i (record { n = 0; of = record {} })
       (record { n = 0; of = record {} }) c.requires c.loop-event-test.true in
       let t : List Value = c.loop-event.stepper.values in
@@ -106,7 +106,7 @@ loop-event-preserved c = (
 pub returns-clause-met : goal.returns-clause-met
 returns-clause-met c = λ system views dropped fault h.
     let p : GtsParts = c.args.gts.now in
-    let all : List Label = labels_at p c.args.ways.now (numbers c.args.events.now) in
+    let all : List Label = labels_at p c.args.ways.now (numbers_of_set c.args.events.now) in
     no_conflict p c.parts-sound_parts.ensures.sound system views dropped all fault c.loop-event.event-index
     c.loop-event.stepper.values
     (omega (arith, c.loop-event-test.false, labels_long p c.args.ways.now c.args.events.now))

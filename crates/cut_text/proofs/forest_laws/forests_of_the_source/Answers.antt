@@ -1,7 +1,7 @@
 use Rattle.std.proofs.Common.{◌≡◌, ◌++◌, ◌<◌, ◌⊎◌, inl, inr, ℕ, zero, suc, Option, List, [], ◌∷◌, length, refl, sym, ◌∙◌, ap, subst, arith}
 use Rattle.ar_base.specs.Lists.{IsOneOf}
 use Rattle.ar_base.proofs.Standing.{one_here, one_first, one_rest, along_length, stands_within}
-use Rattle.typed_expr.specs.PairsInside.{turned}
+use Rattle.typed_expr.specs.PairsInside.{turned_pairs}
 use Rattle.ar_meaning.specs.Systems.{System}
 use Rattle.ar_meaning.specs.FlatOf.{IsNumber, IsFlatOf}
 use Rattle.ar_meaning.specs.TraceText.{Naming}
@@ -83,7 +83,7 @@ returns-clause-text c = λ x p flat of views order dropped f keeps is own.
     ∙ (ap (λ (z : Naming). tree_lines z flat trees) of.names ∙ trees_same things x.system flat flat_of names trees) in
     record {
       trees = trees;
-      is_forest = forest_there (turned (IsNumber things)) flat x.system image dropped is;
+      is_forest = forest_there (turned_pairs (IsNumber things)) flat x.system image dropped is;
       events = events_of trees;
       are_live = live_events_there things x.system flat flat_of dropped (events_of trees)
           (flat_live p flat views order dropped f keeps is);

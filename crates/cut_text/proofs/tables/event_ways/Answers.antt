@@ -5,8 +5,8 @@ use Rattle.ar_base.specs.Numbers.{WayId}
 use Rattle.gts_core.specs.declared.system.GtsParts.{GtsParts}
 use Rattle.mode_trees.specs.declared.forests.Edge.{Edge}
 use Rattle.mode_trees.specs.declared.forests.ModeTree.{ModeTree}
-use Rattle.cut_text.specs.Printed.{edges_of}
-use Rattle.cut_text.specs.Tables.{AreWaysOf, with_ways}
+use Rattle.cut_text.specs.Printed.{forest_edges}
+use Rattle.cut_text.specs.Tables.{HasEdgeWays, with_ways}
 use Rattle.cut_text.proofs.TableLemmas.{AreWithin, are_ways, edge_in, events_within, one_more, kept_as, tree_here, next_edges, no_edges}
 use Rattle.cut_text.proofs.tables.event_ways.Goals as goal
 
@@ -59,9 +59,9 @@ returns c =
     (λ (p : GtsParts). length p.events.items) c.parts.ensures.parts in
     let same : length start ≡ length c.args.gts.now.events.items =
     omega (arith, all, c.in_ok-ways.ways.ok, c.in_ok-ways.ensures.len, c.len.ensures, c.parts.result.now.events.ok) in
-    subst (λ (z : List WayId). AreWaysOf (edges_of ts) z)
+    subst (λ (z : List WayId). HasEdgeWays (forest_edges ts) z)
     (sym c.loop-tree.invariant.0 ∙ ap (λ (z : List Edge). with_ways z c.loop-tree.ways.items) none)
-    (are_ways (edges_of ts) start
-    (subst (λ (n : ℕ). AreWithin n (edges_of ts)) (sym same)
+    (are_ways (forest_edges ts) start
+    (subst (λ (n : ℕ). AreWithin n (forest_edges ts)) (sym same)
     (events_within c.args.gts.now c.parts.ensures.sound ts c.requires.own))
     c.requires.one_way)

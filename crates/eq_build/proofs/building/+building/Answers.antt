@@ -12,8 +12,8 @@ use Rattle.eq_build.specs.Entries.{only, entries_for, opposite_terms, joint_term
 use Rattle.eq_build.specs.Builds.{Builds, Builds_each, Builds_parts, Builds_cases}
 use Rattle.eq_build.specs.BuildsInside.{NeedsMore}
 use Rattle.eq_build.specs.Builds as b
-use Rattle.eq_build.specs.Views.{entries_in, lists_in, parts_in, cases_in, gates_in, row_of, MakesEntries}
-use Rattle.eq_build.specs.Answers.{Entries, PartsNeedMore, CasesNeedMore}
+use Rattle.eq_build.specs.Views.{entries_in, lists_in, signed_parts_in, cases_in, gates_in, row_read, MakesEntries}
+use Rattle.eq_build.specs.Answers.{EntryLists, PartsNeedMore, CasesNeedMore}
 use Rattle.eq_build.specs.declared.entries.Entry.{Entry}
 use Rattle.eq_build.specs.declared.steps.Step.TheVariants.{Times, Lesser, Greater, Counted, Compared}
 use Rattle.eq_build.proofs.Arms as arm
@@ -29,7 +29,7 @@ entries_of-returns-in_err-operands-in-All t c =
     let es = c.in-All.es in
     arm.each_fails rows g c.args.expr.now (form.All es) c.deref-in-All.result.now es.items
     c.from_residual-in_err-operands-in-All.result c.in_err-operands-in-All.field-0.0 c.each.new.gates.items
-    (opened-all c.args.expr.now es c.in-All.is) c.deref-in-All.ensures.value (arm.up_all (row_of rows) g es)
+    (opened-all c.args.expr.now es c.in-All.is) c.deref-in-All.ensures.value (arm.up_all (row_read rows) g es)
     c.from_residual-in_err-operands-in-All.ensures.1 c.in_err-operands-in-All.ensures
 
 pub entries_of-returns-in_ok-operands-in-All : goal.entries_of-returns-in_ok-operands-in-All
@@ -52,7 +52,7 @@ entries_of-returns-in_err-operands-in-Any t c =
     let es = c.in-Any.es in
     arm.each_fails rows g c.args.expr.now (form.Any es) c.deref-in-Any.result.now es.items
     c.from_residual-in_err-operands-in-Any.result c.in_err-operands-in-Any.field-0.0 c.each-in-Any.new.gates.items
-    (opened-any c.args.expr.now es c.in-Any.is) c.deref-in-Any.ensures.value (arm.up_any (row_of rows) g es)
+    (opened-any c.args.expr.now es c.in-Any.is) c.deref-in-Any.ensures.value (arm.up_any (row_read rows) g es)
     c.from_residual-in_err-operands-in-Any.ensures.1 c.in_err-operands-in-Any.ensures
 
 pub entries_of-returns-in_ok-operands-in-Any : goal.entries_of-returns-in_ok-operands-in-Any
@@ -76,7 +76,7 @@ entries_of-returns-in_err-operands-in-Least t c =
     let es = c.in-Least.es in
     arm.each_fails rows g c.args.expr.now (form.Least es) c.deref-in-Least.result.now es.items
     c.from_residual-in_err-operands-in-Least.result c.in_err-operands-in-Least.field-0.0 c.each-in-Least.new.gates.items
-    (opened-least c.args.expr.now es c.in-Least.is) c.deref-in-Least.ensures.value (arm.up_least (row_of rows) g es)
+    (opened-least c.args.expr.now es c.in-Least.is) c.deref-in-Least.ensures.value (arm.up_least (row_read rows) g es)
     c.from_residual-in_err-operands-in-Least.ensures.1 c.in_err-operands-in-Least.ensures
 
 pub entries_of-returns-in_ok-operands-in-Least : goal.entries_of-returns-in_ok-operands-in-Least
@@ -101,7 +101,7 @@ entries_of-returns-in_err-operands-in-Greatest t c =
     c.from_residual-in_err-operands-in-Greatest.result c.in_err-operands-in-Greatest.field-0.0
     c.each-in-Greatest.new.gates.items
     (opened-greatest c.args.expr.now es c.in-Greatest.is) c.deref-in-Greatest.ensures.value
-    (arm.up_greatest (row_of rows) g es)
+    (arm.up_greatest (row_read rows) g es)
     c.from_residual-in_err-operands-in-Greatest.ensures.1 c.in_err-operands-in-Greatest.ensures
 
 pub entries_of-returns-in_ok-operands-in-Greatest : goal.entries_of-returns-in_ok-operands-in-Greatest
@@ -128,7 +128,7 @@ entries_of-returns-in_err-operands-in-Product t c =
     c.from_residual-in_err-operands-in-Product.result c.in_err-operands-in-Product.field-0.0
     c.each-in-Product.new.gates.items
     (opened-product c.args.expr.now es c.in-Product.is) c.deref-in-Product.ensures.value
-    (arm.up_product (row_of rows) g es)
+    (arm.up_product (row_read rows) g es)
     c.from_residual-in_err-operands-in-Product.ensures.1 c.in_err-operands-in-Product.ensures
 
 pub entries_of-returns-in_ok-operands-in-Product : goal.entries_of-returns-in_ok-operands-in-Product
@@ -144,7 +144,7 @@ entries_of-returns-in_ok-operands-in-Product t c =
     (with_step Times ess)) c.folded.result c.folded.new.gates.items
     (opened-product c.args.expr.now es c.in-Product.is) c.deref-in-Product.ensures.value
     c.deref-in-Product-2.ensures.value
-    (λ d. subst (λ z. Builds (row_of rows) g (form.Product es) (folded h z (with_step Times (lists_in all))))
+    (λ d. subst (λ z. Builds (row_read rows) g (form.Product es) (folded h z (with_step Times (lists_in all))))
     (sym (ap (λ z. z ∷ []) c.always-in-Product.ensures)) (b.product d)) made.0 c.folded.ensures
 
 pub entries_of-returns-in_err-operands-in-Count : goal.entries_of-returns-in_err-operands-in-Count
@@ -154,7 +154,7 @@ entries_of-returns-in_err-operands-in-Count t c =
     let es = c.in-Count.es in
     arm.each_fails rows g c.args.expr.now (form.Count es) c.deref-in-Count.result.now es.items
     c.from_residual-in_err-operands-in-Count.result c.in_err-operands-in-Count.field-0.0 c.each-in-Count.new.gates.items
-    (opened-count c.args.expr.now es c.in-Count.is) c.deref-in-Count.ensures.value (arm.up_count (row_of rows) g es)
+    (opened-count c.args.expr.now es c.in-Count.is) c.deref-in-Count.ensures.value (arm.up_count (row_read rows) g es)
     c.from_residual-in_err-operands-in-Count.ensures.1 c.in_err-operands-in-Count.ensures
 
 pub entries_of-returns-in_ok-operands-in-Count : goal.entries_of-returns-in_ok-operands-in-Count
@@ -169,13 +169,13 @@ entries_of-returns-in_ok-operands-in-Count t c =
     c.deref-in-Count-2.result.now h (λ ess. folded h (entries_in (c.always-in-Count.result ∷ []))
     (with_step Counted ess)) c.folded-in-Count.result c.folded-in-Count.new.gates.items
     (opened-count c.args.expr.now es c.in-Count.is) c.deref-in-Count.ensures.value c.deref-in-Count-2.ensures.value
-    (λ d. subst (λ z. Builds (row_of rows) g (form.Count es) (folded h z (with_step Counted (lists_in all))))
+    (λ d. subst (λ z. Builds (row_read rows) g (form.Count es) (folded h z (with_step Counted (lists_in all))))
     (sym (ap (λ z. z ∷ []) c.always-in-Count.ensures)) (b.count d)) made.0 c.folded-in-Count.ensures
 
 pub entries_of-returns-in_ok-from_slice-in-Constant : goal.entries_of-returns-in_ok-from_slice-in-Constant
 entries_of-returns-in_ok-from_slice-in-Constant t c =
     let rows = c.args.rows.now in
-    let read = row_of rows in
+    let read = row_read rows in
     let g = gates_in c.args.gates.now.items in
     let v = c.in-Constant.v in
     let level = ap (out-Expr VarId) c.in-Constant.is ∙ opened-constant v in
@@ -192,7 +192,7 @@ entries_of-returns-in_ok-from_slice-in-Constant t c =
 pub entries_of-returns-in_ok-from_slice-in-Some : goal.entries_of-returns-in_ok-from_slice-in-Some
 entries_of-returns-in_ok-from_slice-in-Some t c =
     let rows = c.args.rows.now in
-    let read = row_of rows in
+    let read = row_read rows in
     let g = gates_in c.args.gates.now.items in
     let x = c.in-Variable.x in
     let level = ap (out-Expr VarId) c.in-Variable.is ∙ opened-variable x in
@@ -210,7 +210,7 @@ entries_of-returns-in_ok-from_slice-in-Some t c =
 pub entries_of-returns-in-None : goal.entries_of-returns-in-None
 entries_of-returns-in-None t c =
     let rows = c.args.rows.now in
-    let read = row_of rows in
+    let read = row_read rows in
     let g = gates_in c.args.gates.now.items in
     let x = c.in-Variable.x in
     let level = ap (out-Expr VarId) c.in-Variable.is ∙ opened-variable x in
@@ -228,17 +228,17 @@ entries_of-returns-in_err-entries-in-Not t c =
     let rows = c.args.rows.now in
     let g = gates_in c.args.gates.now.items in
     let a = c.in-Not.a in
-    arm.fails rows g c.args.expr.now (form.Not a) (NeedsMore (row_of rows) g (out-Expr VarId c.deref-in-Not.result.now))
+    arm.fails rows g c.args.expr.now (form.Not a) (NeedsMore (row_read rows) g (out-Expr VarId c.deref-in-Not.result.now))
     c.from_residual-in_err-entries-in-Not.result c.in_err-entries-in-Not.field-0.0 c.entries_of.new.gates.items
     (opened-not c.args.expr.now a c.in-Not.is)
-    (λ n. arm.up_not (row_of rows) g a
-    (subst (λ (z : Expr VarId). NeedsMore (row_of rows) g (out-Expr VarId z)) c.deref-in-Not.ensures n))
+    (λ n. arm.up_not (row_read rows) g a
+    (subst (λ (z : Expr VarId). NeedsMore (row_read rows) g (out-Expr VarId z)) c.deref-in-Not.ensures n))
     c.from_residual-in_err-entries-in-Not.ensures.1 c.in_err-entries-in-Not.ensures
 
 pub entries_of-returns-in_ok-entries-in-Not : goal.entries_of-returns-in_ok-entries-in-Not
 entries_of-returns-in_ok-entries-in-Not t c =
     let rows = c.args.rows.now in
-    let read = row_of rows in
+    let read = row_read rows in
     let g = gates_in c.args.gates.now.items in
     let a = c.in-Not.a in
     let h = gates_in c.entries_of.new.gates.items in
@@ -263,12 +263,12 @@ entries_of-returns-in_err-left-in-Compare t c =
     let x = c.in-Compare.a in
     let y = c.in-Compare.b in
     arm.fails rows g c.args.expr.now (form.Compare q x y)
-    (NeedsMore (row_of rows) g (out-Expr VarId c.deref-in-Compare.result.now))
+    (NeedsMore (row_read rows) g (out-Expr VarId c.deref-in-Compare.result.now))
     c.from_residual-in_err-left-in-Compare.result c.in_err-left-in-Compare.field-0.0
     c.entries_of-in-Compare.new.gates.items
     (opened-compare c.args.expr.now q x y c.in-Compare.is)
-    (λ n. arm.up_left (row_of rows) g q x y (subst
-    (λ (z : Expr VarId). NeedsMore (row_of rows) g (out-Expr VarId z)) c.deref-in-Compare.ensures n))
+    (λ n. arm.up_left (row_read rows) g q x y (subst
+    (λ (z : Expr VarId). NeedsMore (row_read rows) g (out-Expr VarId z)) c.deref-in-Compare.ensures n))
     c.from_residual-in_err-left-in-Compare.ensures.1 c.in_err-left-in-Compare.ensures
 
 pub entries_of-returns-in_err-right-in-Compare : goal.entries_of-returns-in_err-right-in-Compare
@@ -281,21 +281,21 @@ entries_of-returns-in_err-right-in-Compare t c =
     let h = gates_in c.entries_of-in-Compare.new.gates.items in
     let left : e.Built = record { entries = entries_in c.in_ok-left-in-Compare.left.items; gates = h } in
     let made = c.in_ok-left-in-Compare.ensures in
-    let first = subst (λ (z : Expr VarId). Builds (row_of rows) g (out-Expr VarId z) left)
+    let first = subst (λ (z : Expr VarId). Builds (row_read rows) g (out-Expr VarId z) left)
     c.deref-in-Compare.ensures made.0 in
     arm.fails rows g c.args.expr.now (form.Compare q x y)
-    (NeedsMore (row_of rows) h (out-Expr VarId c.deref-in-Compare-2.result.now))
+    (NeedsMore (row_read rows) h (out-Expr VarId c.deref-in-Compare-2.result.now))
     c.from_residual-in_err-right-in-Compare.result c.in_err-right-in-Compare.field-0.0
     c.entries_of-in-Compare-2.new.gates.items
     (opened-compare c.args.expr.now q x y c.in-Compare.is)
-    (λ n. arm.up_right (row_of rows) g q x y left first (subst (λ (z : Expr VarId). NeedsMore (row_of rows) h
+    (λ n. arm.up_right (row_read rows) g q x y left first (subst (λ (z : Expr VarId). NeedsMore (row_read rows) h
     (out-Expr VarId z)) c.deref-in-Compare-2.ensures n))
     c.from_residual-in_err-right-in-Compare.ensures.1 c.in_err-right-in-Compare.ensures
 
 pub entries_of-returns-in_ok-right-in-Compare : goal.entries_of-returns-in_ok-right-in-Compare
 entries_of-returns-in_ok-right-in-Compare t c =
     let rows = c.args.rows.now in
-    let read = row_of rows in
+    let read = row_read rows in
     let g = gates_in c.args.gates.now.items in
     let q = c.in-Compare.relation in
     let x = c.in-Compare.a in
@@ -327,26 +327,26 @@ entries_of-returns-in_err-operands-in-Sum t c =
     let rows = c.args.rows.now in
     let g = gates_in c.args.gates.now.items in
     let ps = c.in-Sum.parts in
-    arm.fails rows g c.args.expr.now (form.Sum ps) (PartsNeedMore (row_of rows) g c.deref-in-Sum.result.now)
+    arm.fails rows g c.args.expr.now (form.Sum ps) (PartsNeedMore (row_read rows) g c.deref-in-Sum.result.now)
     c.from_residual-in_err-operands-in-Sum.result c.in_err-operands-in-Sum.field-0.0 c.signed.new.gates.items
     (opened-sum c.args.expr.now ps c.in-Sum.is)
-    (λ n. arm.up_sum (row_of rows) g ps (subst (λ (z : List (Bool × Expr VarId)). PartsNeedMore (row_of rows) g z)
+    (λ n. arm.up_sum (row_read rows) g ps (subst (λ (z : List (Bool × Expr VarId)). PartsNeedMore (row_read rows) g z)
     c.deref-in-Sum.ensures.value n))
     c.from_residual-in_err-operands-in-Sum.ensures.1 c.in_err-operands-in-Sum.ensures
 
 pub entries_of-returns-in_ok-operands-in-Sum : goal.entries_of-returns-in_ok-operands-in-Sum
 entries_of-returns-in_ok-operands-in-Sum t c =
     let rows = c.args.rows.now in
-    let read = row_of rows in
+    let read = row_read rows in
     let g = gates_in c.args.gates.now.items in
     let ps = c.in-Sum.parts in
     let h = gates_in c.signed.new.gates.items in
     let all = c.in_ok-operands-in-Sum.operands.items in
     let made = c.in_ok-operands-in-Sum.ensures in
-    let parts = subst (λ (z : List (Bool × Expr VarId)). Builds_parts read g z (parts_in all) h)
+    let parts = subst (λ (z : List (Bool × Expr VarId)). Builds_parts read g z (signed_parts_in all) h)
     c.deref-in-Sum.ensures.value made.0 in
     let start = ap (λ z. z ∷ []) c.always-in-Sum.ensures in
-    let w : List e.Entry → List (Bool × Entries) → e.Built = λ xs z. folded h xs (with_signs (parts_in z)) in
+    let w : List e.Entry → List (Bool × EntryLists) → e.Built = λ xs z. folded h xs (with_signs (signed_parts_in z)) in
     arm.at_level rows g c.args.expr.now (form.Sum ps) c.summed.result c.summed.new.gates.items
     (opened-sum c.args.expr.now ps c.in-Sum.is)
     (arm.finished rows g (form.Sum ps) (w (only (Whole (pos 0))) all) c.summed.result c.summed.new.gates.items
@@ -358,7 +358,7 @@ entries_of-returns-in_ok-operands-in-Sum t c =
 pub entries_of-returns-in_err-pairs-in-Choose : goal.entries_of-returns-in_err-pairs-in-Choose
 entries_of-returns-in_err-pairs-in-Choose t c =
     let rows = c.args.rows.now in
-    let read = row_of rows in
+    let read = row_read rows in
     let g = gates_in c.args.gates.now.items in
     let cs = c.in-Choose.cases in
     let other = c.in-Choose.other in
@@ -372,7 +372,7 @@ entries_of-returns-in_err-pairs-in-Choose t c =
 pub entries_of-returns-in_err-rest-in-Choose : goal.entries_of-returns-in_err-rest-in-Choose
 entries_of-returns-in_err-rest-in-Choose t c =
     let rows = c.args.rows.now in
-    let read = row_of rows in
+    let read = row_read rows in
     let g = gates_in c.args.gates.now.items in
     let cs = c.in-Choose.cases in
     let other = c.in-Choose.other in
@@ -393,7 +393,7 @@ entries_of-returns-in_err-rest-in-Choose t c =
 pub entries_of-returns-in_ok-rest-in-Choose : goal.entries_of-returns-in_ok-rest-in-Choose
 entries_of-returns-in_ok-rest-in-Choose t c =
     let rows = c.args.rows.now in
-    let read = row_of rows in
+    let read = row_read rows in
     let g = gates_in c.args.gates.now.items in
     let cs = c.in-Choose.cases in
     let other = c.in-Choose.other in
@@ -415,18 +415,18 @@ entries_of-returns-in_ok-rest-in-Choose t c =
 pub each-loop-e-init : goal.each-loop-e-init
 each-loop-e-init t c =
     let rows = c.args.rows.now in
-    let read = row_of rows in
+    let read = row_read rows in
     let g = gates_in c.args.gates.now.items in
     record {
       few = c.requires;
-      so_far = subst (λ (z : List (Entries)). SoFar (Builds_each read) g c.args.es.now 0 (lists_in z) g)
+      so_far = subst (λ (z : List (EntryLists)). SoFar (Builds_each read) g c.args.es.now 0 (lists_in z) g)
           (sym c.new-operands.ensures.items) (nothing_yet (Builds_each read) g c.args.es.now);
     }
 
 pub each-loop-e-preserved : goal.each-loop-e-preserved
 each-loop-e-preserved t c =
     let rows = c.args.rows.now in
-    let read = row_of rows in
+    let read = row_read rows in
     let g = gates_in c.args.gates.now.items in
     let h = gates_in c.loop-e.gates.items in
     let k = gates_in c.entries_of.new.gates.items in
@@ -441,7 +441,7 @@ each-loop-e-preserved t c =
 pub each-returns-in_err-entries : goal.each-returns-in_err-entries
 each-returns-in_err-entries t c =
     let rows = c.args.rows.now in
-    let read = row_of rows in
+    let read = row_read rows in
     let g = gates_in c.args.gates.now.items in
     let h = gates_in c.loop-e.gates.items in
     operand.each_stops rows g h c.args.es.now c.loop-e.e-index c.e-item.result c.loop-e.operands.items
@@ -451,7 +451,7 @@ each-returns-in_err-entries t c =
 pub each-returns : goal.each-returns
 each-returns t c =
     let rows = c.args.rows.now in
-    let read = row_of rows in
+    let read = row_read rows in
     let g = gates_in c.args.gates.now.items in
     let h = gates_in c.loop-e.gates.items in (
       operand.each_ends rows g h c.args.es.now c.loop-e.e-index c.loop-e.operands.items c.loop-e-test.false
@@ -462,18 +462,18 @@ each-returns t c =
 pub signed-loop-plus-init : goal.signed-loop-plus-init
 signed-loop-plus-init t c =
     let rows = c.args.rows.now in
-    let read = row_of rows in
+    let read = row_read rows in
     let g = gates_in c.args.gates.now.items in
     record {
       few = c.requires;
-      so_far = subst (λ (z : List (Bool × Entries)). SoFar (Builds_parts read) g c.args.parts.now 0 (parts_in z) g)
+      so_far = subst (λ (z : List (Bool × EntryLists)). SoFar (Builds_parts read) g c.args.parts.now 0 (signed_parts_in z) g)
           (sym c.new-operands.ensures.items) (nothing_yet (Builds_parts read) g c.args.parts.now);
     }
 
 pub signed-loop-plus-preserved : goal.signed-loop-plus-preserved
 signed-loop-plus-preserved t c =
     let rows = c.args.rows.now in
-    let read = row_of rows in
+    let read = row_read rows in
     let g = gates_in c.args.gates.now.items in
     let h = gates_in c.loop-plus.gates.items in
     let k = gates_in c.entries_of.new.gates.items in
@@ -490,7 +490,7 @@ signed-loop-plus-preserved t c =
 pub signed-returns-in_err-entries : goal.signed-returns-in_err-entries
 signed-returns-in_err-entries t c =
     let rows = c.args.rows.now in
-    let read = row_of rows in
+    let read = row_read rows in
     let g = gates_in c.args.gates.now.items in
     let h = gates_in c.loop-plus.gates.items in
     operand.parts_stop rows g h c.args.parts.now c.loop-plus.plus-index c.loop-plus-item.result
@@ -502,7 +502,7 @@ signed-returns-in_err-entries t c =
 pub signed-returns : goal.signed-returns
 signed-returns t c =
     let rows = c.args.rows.now in
-    let read = row_of rows in
+    let read = row_read rows in
     let g = gates_in c.args.gates.now.items in
     let h = gates_in c.loop-plus.gates.items in (
       operand.parts_end rows g h c.args.parts.now c.loop-plus.plus-index c.loop-plus.operands.items
@@ -514,18 +514,18 @@ signed-returns t c =
 pub tested-loop-test-init : goal.tested-loop-test-init
 tested-loop-test-init t c =
     let rows = c.args.rows.now in
-    let read = row_of rows in
+    let read = row_read rows in
     let g = gates_in c.args.gates.now.items in
     record {
       few = c.requires;
-      so_far = subst (λ (z : List (Entries × Entries)). SoFar (Builds_cases read) g c.args.cases.now 0 (cases_in z) g)
+      so_far = subst (λ (z : List (EntryLists × EntryLists)). SoFar (Builds_cases read) g c.args.cases.now 0 (cases_in z) g)
           (sym c.new-pairs.ensures.items) (nothing_yet (Builds_cases read) g c.args.cases.now);
     }
 
 pub tested-loop-test-preserved : goal.tested-loop-test-preserved
 tested-loop-test-preserved t c =
     let rows = c.args.rows.now in
-    let read = row_of rows in
+    let read = row_read rows in
     let g = gates_in c.args.gates.now.items in
     let h = gates_in c.loop-test.gates.items in
     let m = gates_in c.entries_of.new.gates.items in
@@ -542,7 +542,7 @@ tested-loop-test-preserved t c =
 pub tested-returns-in_err-tests : goal.tested-returns-in_err-tests
 tested-returns-in_err-tests t c =
     let rows = c.args.rows.now in
-    let read = row_of rows in
+    let read = row_read rows in
     let g = gates_in c.args.gates.now.items in
     let h = gates_in c.loop-test.gates.items in
     operand.test_stops rows g h c.args.cases.now c.loop-test.test-index c.loop-test-item.result c.loop-test.pairs.items
@@ -553,7 +553,7 @@ tested-returns-in_err-tests t c =
 pub tested-returns-in_err-values : goal.tested-returns-in_err-values
 tested-returns-in_err-values t c =
     let rows = c.args.rows.now in
-    let read = row_of rows in
+    let read = row_read rows in
     let g = gates_in c.args.gates.now.items in
     let h = gates_in c.loop-test.gates.items in
     let m = gates_in c.entries_of.new.gates.items in
@@ -568,7 +568,7 @@ tested-returns-in_err-values t c =
 pub tested-returns : goal.tested-returns
 tested-returns t c =
     let rows = c.args.rows.now in
-    let read = row_of rows in
+    let read = row_read rows in
     let g = gates_in c.args.gates.now.items in
     let h = gates_in c.loop-test.gates.items in (
       operand.cases_end rows g h c.args.cases.now c.loop-test.test-index c.loop-test.pairs.items c.loop-test-test.false

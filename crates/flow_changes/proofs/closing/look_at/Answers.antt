@@ -5,7 +5,7 @@ use Rattle.gts_core.specs.declared.system.Assign.{Assign}
 use Rattle.gts_core.specs.declared.system.Variable.{Variable}
 use Rattle.flow_propagate.proofs.Worklists.{readers_below}
 use Rattle.flow_changes.specs.Known.{Touches, Applies}
-use Rattle.flow_changes.specs.Queue.{AddsPlaces, IsPlaceOf}
+use Rattle.flow_changes.specs.Queue.{AddsPlaces, IsPairPlace}
 use Rattle.flow_changes.proofs.Looks.{looks_more}
 use Rattle.flow_changes.proofs.closing.look_at.Goals as goal
 
@@ -56,5 +56,5 @@ returns-clause-looks c = λ e.
     looks_more p plan c.args.n a sa c.args.values.now.items c.args.known.now.items c.apply.new.values.items
     c.apply.new.known.items c.args.work.now c.add_all.new.work c.pairs_of-run.result.now c.requires.plan applies
     c.pairs_of-run.ensures.all c.pairs_of-run.ensures.short
-    (subst (λ (z : List ℕ). AddsPlaces (length c.pairs_of-run.result.now) (IsPlaceOf z c.pairs_of-run.result.now)
+    (subst (λ (z : List ℕ). AddsPlaces (length c.pairs_of-run.result.now) (IsPairPlace z c.pairs_of-run.result.now)
     c.args.work.now c.add_all.new.work) c.deref.ensures.value c.in_ok-add_all.ensures)

@@ -7,7 +7,7 @@ use Rattle.ar_meaning.proofs.Found.{holds}
 use Rattle.gts_core.specs.Readings.{IsTotal}
 use Rattle.gts_core.specs.View.{net_of, assign_of}
 use Rattle.flow_changes.specs.Cone.{Knows}
-use Rattle.flow_changes.specs.Known.{numbers_of, Resets}
+use Rattle.flow_changes.specs.Known.{changing_numbers, Resets}
 use Rattle.value_changes.specs.Picking.{KeepsOthers, AreWithin}
 use Rattle.flow_changes.specs.Following.{ClosesUp}
 use Rattle.flow_changes.proofs.Begun.{new_inside, within_long}
@@ -21,11 +21,11 @@ set_all-requires c = λ n o.
     omega (arith, h, c.requires.determined.long)
 
 pub write_new-requires : goal.write_new-requires
-write_new-requires c = within_long (numbers_of c.args.new.now) c.args.parts.now.variables.items c.args.values.now.items
+write_new-requires c = within_long (changing_numbers c.args.new.now) c.args.parts.now.variables.items c.args.values.now.items
     (sym c.requires.determined.total.long) (new_inside c.args.parts.now c.args.new.now c.requires.new)
 
 pub mark_new-requires : goal.mark_new-requires
-mark_new-requires c = within_long (numbers_of c.args.new.now) c.args.parts.now.variables.items c.set_all.new.marks.items
+mark_new-requires c = within_long (changing_numbers c.args.new.now) c.args.parts.now.variables.items c.set_all.new.marks.items
     (sym (c.set_all.ensures.keeps.long ∙ c.requires.determined.long))
     (new_inside c.args.parts.now c.args.new.now c.requires.new)
 

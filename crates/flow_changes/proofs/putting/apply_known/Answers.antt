@@ -7,7 +7,7 @@ use Rattle.domains.specs.declared.Value.{Value}
 use Rattle.typed_expr.specs.declared.expr.Expr.{Expr}
 use Rattle.gts_core.specs.Readings.{value_in, is_met}
 use Rattle.gts_core.specs.declared.system.Variable.{Variable}
-use Rattle.flow_changes.specs.Known.{Touches, Puts, Applies}
+use Rattle.flow_changes.specs.Known.{Touches, PutsKnown, Applies}
 use Rattle.flow_changes.proofs.Puts.{some_as, touches_not, applies_not, applies_set, aims}
 use Rattle.flow_changes.proofs.NamedKnown.{not_met, yields_value}
 use Rattle.flow_changes.proofs.putting.apply_known.Goals as goal
@@ -79,7 +79,7 @@ returns-clause-applies c =
     ∙ ap (λ (z : List Value). value_in z a.value) c.deref-3.ensures.value in
     let gives = yields_value p c.requires.sound a c.requires.one t c.requires.total known c.requires.named
     (met ∙ c.if-not-are_met.false) v is in
-    some_as (Puts d a.target.n (v ∷ []) t known c.put.new.values.items c.put.new.known.items)
+    some_as (PutsKnown d a.target.n (v ∷ []) t known c.put.new.values.items c.put.new.known.items)
     (Applies p a t known c.put.new.values.items c.put.new.known.items) c.put.result
     (λ changed puts. applies_set p a t known d (v ∷ []) c.put.new.values.items c.put.new.known.items changed gives puts)
     c.put.ensures.puts

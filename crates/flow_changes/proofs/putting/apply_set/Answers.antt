@@ -5,10 +5,10 @@ use Rattle.domains.specs.declared.Value.{Value}
 use Rattle.gts_core.specs.View.{assign_of}
 use Rattle.gts_core.specs.declared.system.Variable.{Variable}
 use Rattle.flow_changes.specs.Cone.{Knows}
-use Rattle.flow_changes.specs.Known.{Touches, Puts, Applies}
+use Rattle.flow_changes.specs.Known.{Touches, PutsKnown, Applies}
 use Rattle.flow_changes.proofs.Puts.{some_as, applies_set, aims}
 use Rattle.flow_changes.proofs.putting.apply_set.Goals as goal
-use Rattle.ar_meaning.specs.Reached.{Reaches}
+use Rattle.ar_meaning.specs.Reached.{YieldsWhereReached}
 
 pub index-requires : goal.index-requires
 index-requires c =
@@ -52,13 +52,13 @@ returns-clause-applies c =
     let values = c.args.values.now.items in
     let known = c.args.known.now.items in
     let d = c.index.result.now.domain in
-    let told = subst (λ (z : List Bool). Reaches (Knows values z) (assign_of a) c.in_ok-set.field-0)
-    c.deref-2.ensures.value (subst (λ (z : List Value). Reaches (Knows z c.deref-2.result.now) (assign_of a)
+    let told = subst (λ (z : List Bool). YieldsWhereReached (Knows values z) (assign_of a) c.in_ok-set.field-0)
+    c.deref-2.ensures.value (subst (λ (z : List Value). YieldsWhereReached (Knows z c.deref-2.result.now) (assign_of a)
     c.in_ok-set.field-0) c.deref.ensures.value c.in_ok-set.ensures) in
-    let gives = subst (λ (o : Option (List Value)). Reaches (Knows values known) (assign_of a) o) c.in-Some.is told in
-    let set = subst (λ (z : List Value). Reaches (Knows values known) (assign_of a) (Some z))
+    let gives = subst (λ (o : Option (List Value)). YieldsWhereReached (Knows values known) (assign_of a) o) c.in-Some.is told in
+    let set = subst (λ (z : List Value). YieldsWhereReached (Knows values known) (assign_of a) (Some z))
     (sym c.values.ensures.values) gives in
-    some_as (Puts d a.target.n c.values.result.now values known c.put_all-changed.new.values.items
+    some_as (PutsKnown d a.target.n c.values.result.now values known c.put_all-changed.new.values.items
     c.put_all-changed.new.known.items)
     (Applies p a values known c.put_all-changed.new.values.items c.put_all-changed.new.known.items)
     c.put_all-changed.result

@@ -5,7 +5,7 @@ use Rattle.gts_core.specs.declared.system.GtsParts.{GtsParts}
 use Rattle.flow_propagate.specs.Answers.{IsState}
 use Rattle.flow_propagate.specs.Determined.{IsDeterminedBy}
 use Rattle.flow_propagate.specs.NewValues.{written}
-use Rattle.flow_changes.specs.Known.{numbers_of}
+use Rattle.flow_changes.specs.Known.{changing_numbers}
 use Rattle.value_changes.specs.Picking.{AreWithin, ArePicked, KeepsOthers}
 use Rattle.value_changes.specs.Restoring.{TellsChanges}
 use Rattle.flow_changes.proofs.Begun.{new_inside, within_long}
@@ -14,8 +14,8 @@ use Rattle.flow_changes.proofs.Anew.{all_within, all_picked, all_kept}
 use Rattle.flow_changes.proofs.whole.whole.Goals as goal
 
 pub renewed-requires : goal.renewed-requires
-renewed-requires c = subst (λ (z : List Value). AreWithin (numbers_of c.args.new.now) z) (sym c.deref.ensures.value)
-    (within_long (numbers_of c.args.new.now) c.args.gts.now.variables.items c.args.determined.now.values.values.items
+renewed-requires c = subst (λ (z : List Value). AreWithin (changing_numbers c.args.new.now) z) (sym c.deref.ensures.value)
+    (within_long (changing_numbers c.args.new.now) c.args.gts.now.variables.items c.args.determined.now.values.values.items
     (sym c.requires.determined.total.long) (new_inside c.args.gts.now c.args.new.now c.requires.new))
 
 pub determine-requires-clause-state : goal.determine-requires-clause-state

@@ -1,5 +1,5 @@
 use Rattle.std.proofs.Common.{ℕ, length, subst, ◌∙◌}
-use Rattle.flow_propagate.specs.Closing.{Takes}
+use Rattle.flow_propagate.specs.Closing.{TakesAssignment}
 use Rattle.flow_propagate.proofs.Applying.{moves_not, moves_then}
 use Rattle.flow_propagate.proofs.Worklists.{by_length}
 use Rattle.flow_propagate.proofs.Looking.{taken, all_closed, left_less}
@@ -21,7 +21,7 @@ take-requires c = by_length _ _ c.loop-n.invariant.1
 
 pub look_at-requires : goal.look_at-requires
 look_at-requires c =
-    let t = subst (λ (z : ℕ). Takes z c.in-Some.n c.loop-n.work c.take.new.work) c.loop-n.invariant.1.long
+    let t = subst (λ (z : ℕ). TakesAssignment z c.in-Some.n c.loop-n.work c.take.new.work) c.loop-n.invariant.1.long
     c.in-Some.ensures in
     record {
       sound = c.requires.sound;

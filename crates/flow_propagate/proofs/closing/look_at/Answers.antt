@@ -4,7 +4,7 @@ use Rattle.ar_base.specs.Lists.{IsOneOf}
 use Rattle.ar_base.proofs.Standing.{stands_item}
 use Rattle.ar_base.proofs.Results.{ok_as}
 use Rattle.flow_propagate.specs.Plan.{Reader, plain_pair}
-use Rattle.flow_propagate.specs.Closing.{Applies, AddsWork, Hears}
+use Rattle.flow_propagate.specs.Closing.{AppliesAssignment, AddsWork, Hears}
 use Rattle.flow_propagate.proofs.Worklists.{by_length, adds_pairs, readers_below}
 use Rattle.flow_propagate.proofs.Looking.{looks_still, looks_more}
 use Rattle.flow_propagate.proofs.Hearing.{hears_still, hears_more}
@@ -24,7 +24,7 @@ returns-then-not-look c =
     let old = c.args.table.now.rows.items in
     let new = c.apply.new.table.rows.items in
     let st = stands_item p.assigns.items c.args.n a c.requires.below c.index-assign.ensures in
-    let m = subst (λ (b : Bool). Applies p a old new b) (not-true _ c.if-not-look.true) c.in_ok-look.ensures.applies in
+    let m = subst (λ (b : Bool). AppliesAssignment p a old new b) (not-true _ c.if-not-look.true) c.in_ok-look.ensures.applies in
     record {
       looks = looks_still p (length c.args.readers.now.pairs.items) c.args.n a old new c.args.work.now c.requires.work
           st m;
@@ -48,7 +48,7 @@ returns c =
     let new = c.apply.new.table.rows.items in
     let readers = c.args.readers.now.pairs.items in
     let st = stands_item p.assigns.items c.args.n a c.requires.below c.index-assign.ensures in
-    let m = subst (λ (b : Bool). Applies p a old new b) (not-false _ c.if-not-look.false)
+    let m = subst (λ (b : Bool). AppliesAssignment p a old new b) (not-false _ c.if-not-look.false)
     c.in_ok-look.ensures.applies in
     let adds : AddsWork (length c.args.work.now.places.now) (length readers)
     (λ m. (r : Reader) × IsOneOf readers r × (r.0.n ≡ a.target.n) × (r.1.n ≡ m)) c.args.work.now

@@ -3,8 +3,8 @@ use Rattle.domains.specs.declared.Value.{Value}
 use Rattle.ar_meaning.specs.Flows as f
 use Rattle.ar_base.specs.Lists.{IsFirst, HasNo}
 use Rattle.gts_core.specs.View.{net_of}
-use Rattle.flow_propagate.specs.Searches.{IsLeast, LeavesDomain}
-use Rattle.flow_propagate.specs.Totals.{Breaks, AreMarks}
+use Rattle.flow_propagate.specs.Searches.{IsLeastTarget, LeavesTargetDomain}
+use Rattle.flow_propagate.specs.Totals.{Breaks, MarkKnownRows}
 use Rattle.flow_propagate.proofs.Searching.{outside_found, outside_none}
 use Rattle.flow_propagate.proofs.Determining.{completes_total, completed_states, flows_itself}
 use Rattle.flow_propagate.proofs.Marking.{tell_facts}
@@ -20,7 +20,7 @@ pub returns-in-Some-outside : goal.returns-in-Some-outside
 returns-in-Some-outside c =
     let p = c.args.parts.now in
     let rows = c.in_ok-known.known.table.rows.items in
-    let least = subst (λ (o : Option ℕ). IsLeast p.assigns.items (length p.assigns.items) (LeavesDomain p rows) o)
+    let least = subst (λ (o : Option ℕ). IsLeastTarget p.assigns.items (length p.assigns.items) (LeavesTargetDomain p rows) o)
     c.in-Some-outside.is c.in_ok-known.ensures.outside in
     subst (λ (n : ℕ). f.Flows (net_of p) c.args.values.now (f.Fails (f.Outside n))) (sym c.new-in-Some-outside.ensures)
     (f.outside (c.in_default.ensures c.args.values.now c.in_ok-known.ensures.facts)
@@ -33,7 +33,7 @@ returns-in-Some-first_broken c =
     let rows = c.in_ok-known.known.table.rows.items in
     let total = c.in_ok-total.total.items in
     let facts = c.in_ok-known.ensures.facts in
-    let least = subst (λ (o : Option ℕ). IsLeast p.assigns.items (length p.assigns.items) (LeavesDomain p rows) o)
+    let least = subst (λ (o : Option ℕ). IsLeastTarget p.assigns.items (length p.assigns.items) (LeavesTargetDomain p rows) o)
     c.in_default-outside.is c.in_ok-known.ensures.outside in
     let whole = completes p t rows facts total c.requires.state.long c.in_ok-total.ensures in
     let is = completes_total p c.requires.sound t total c.requires.state whole in
@@ -50,7 +50,7 @@ returns c =
     let rows = c.in_ok-known.known.table.rows.items in
     let total = c.in_ok-total.total.items in
     let facts = c.in_ok-known.ensures.facts in
-    let least = subst (λ (o : Option ℕ). IsLeast p.assigns.items (length p.assigns.items) (LeavesDomain p rows) o)
+    let least = subst (λ (o : Option ℕ). IsLeastTarget p.assigns.items (length p.assigns.items) (LeavesTargetDomain p rows) o)
     c.in_default-outside.is c.in_ok-known.ensures.outside in
     let two = c.in_default.ensures t facts in
     let whole = completes p t rows facts total c.requires.state.long c.in_ok-total.ensures in
@@ -60,7 +60,7 @@ returns c =
     let flows : f.Flows (net_of p) t (f.Total total) =
     f.all_hold two (outside_none p c.requires.sound t rows facts least) whole
     (broken_none p c.requires.sound total is none) in
-    let marks = subst (λ (n : ℕ). AreMarks rows n c.in_ok-marks.marks.items) c.in_ok-known.ensures.long
+    let marks = subst (λ (n : ℕ). MarkKnownRows rows n c.in_ok-marks.marks.items) c.in_ok-known.ensures.long
     c.in_ok-marks.ensures in
     record {
       is = record {

@@ -5,7 +5,7 @@ use Rattle.domains.specs.Domains.{IsDomain}
 use Rattle.ar_base.proofs.Standing.{stands_within}
 use Rattle.gts_core.specs.View.{assign_of}
 use Rattle.gts_core.specs.declared.system.Variable.{Variable}
-use Rattle.flow_propagate.specs.Table.{Reaches, PutsAll}
+use Rattle.flow_propagate.specs.Table.{YieldsFromTable, PutsAll}
 use Rattle.flow_propagate.proofs.Putting.{aims, reads_there}
 use Rattle.flow_propagate.proofs.Applying.{applies}
 use Rattle.flow_propagate.proofs.Hearing.{leaves_answer}
@@ -41,7 +41,7 @@ returns-clause-applies c =
     let a = aims c.args.parts.now c.args.assign.now c.requires.sound c.requires.one in
     let same = reads_there c.args.parts.now.variables.items c.args.assign.now.target.n a.variable c.index.result.now
     a.stands c.index.ensures in
-    let reach = subst (λ (o : Option (List Value)). Reaches c.args.table.now.rows.items (assign_of c.args.assign.now) o)
+    let reach = subst (λ (o : Option (List Value)). YieldsFromTable c.args.table.now.rows.items (assign_of c.args.assign.now) o)
     c.in-Some.is c.in_ok-set.ensures in
     let puts = subst (λ (vs : List Value). PutsAll c.index.result.now.domain c.args.assign.now.target.n vs
     c.args.table.now.rows.items c.put_all.new.table.rows.items c.in_ok-changed.changed)
@@ -55,7 +55,7 @@ returns-clause-outside c =
     let a = aims c.args.parts.now c.args.assign.now c.requires.sound c.requires.one in
     let same = reads_there c.args.parts.now.variables.items c.args.assign.now.target.n a.variable c.index.result.now
     a.stands c.index.ensures in
-    let reach = subst (λ (o : Option (List Value)). Reaches c.args.table.now.rows.items (assign_of c.args.assign.now) o)
+    let reach = subst (λ (o : Option (List Value)). YieldsFromTable c.args.table.now.rows.items (assign_of c.args.assign.now) o)
     c.in-Some.is c.in_ok-set.ensures in
     leaves_as c.args.parts.now c.args.table.now.rows.items c.args.assign.now c.index.result.now.domain
     c.some_outside-outside.result c.index.result.now

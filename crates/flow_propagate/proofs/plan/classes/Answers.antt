@@ -1,7 +1,7 @@
 use Rattle.std.proofs.Common.{◌<◌, ℕ, List, [], map, length, subst, sym, ◌∙◌, ap}
 use Rattle.ar_base.proofs.Results.{ok_map}
 use Rattle.flow_blocks.specs.Blocks.{Follow}
-use Rattle.flow_blocks.specs.BlocksInside.{AreBelow}
+use Rattle.flow_blocks.specs.BlocksInside.{AreUsesBelow}
 use Rattle.flow_blocks.specs.declared.graph.Block.{Block}
 use Rattle.gts_core.specs.declared.system.Variable.{Variable}
 use Rattle.flow_propagate.specs.Dependence.{flows_in, ArePlaces}
@@ -23,7 +23,7 @@ blocks-requires c =
     let uses = c.in_ok-graph.graph.uses.items in
     let count = c.in_ok-graph.ensures.count ∙ c.in_ok-flows.ensures.count
     ∙ ap (λ (z : List Variable). flows_in z) c.deref.ensures.value in
-    subst (λ (z : ℕ). AreBelow z uses) (sym count) (uses_below c.args.parts.now uses c.in_ok-graph.ensures.uses)
+    subst (λ (z : ℕ). AreUsesBelow z uses) (sym count) (uses_below c.args.parts.now uses c.in_ok-graph.ensures.uses)
 
 pub returns : goal.returns
 returns c =

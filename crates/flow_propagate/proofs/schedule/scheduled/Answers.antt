@@ -1,6 +1,6 @@
 use Rattle.std.proofs.Common.{◌≡◌, ℕ, List, length, rules, sym, subst, ◌∙◌, arith}
 use Rattle.ar_base.specs.Lists.{Stands}
-use Rattle.flow_propagate.specs.Plan.{IsOrder}
+use Rattle.flow_propagate.specs.Plan.{IsNumberOrder}
 use Rattle.flow_propagate.proofs.Worklists.{order_moved}
 use Rattle.flow_propagate.proofs.schedule.scheduled.Goals as goal
 
@@ -8,16 +8,16 @@ pub places_in-requires : goal.places_in-requires
 places_in-requires c =
     let n = length c.args.parts.now.assigns.items in
     let whole : c.len-count.result ≡ n = search rules in
-    let numbers : IsOrder n c.in_ok-order.order.items = record { all = λ k h. c.in_ok-order.ensures.all k (omega (arith, h, whole)); below = λ k h. let l = c.in_ok-order.ensures.below k h in omega (arith, l, whole) } in
-    subst (λ (k : ℕ). IsOrder k c.deref.result.now) (sym whole)
-    (subst (λ (z : List ℕ). IsOrder n z) (sym c.deref.ensures.value)
+    let numbers : IsNumberOrder n c.in_ok-order.order.items = record { all = λ k h. c.in_ok-order.ensures.all k (omega (arith, h, whole)); below = λ k h. let l = c.in_ok-order.ensures.below k h in omega (arith, l, whole) } in
+    subst (λ (k : ℕ). IsNumberOrder k c.deref.result.now) (sym whole)
+    (subst (λ (z : List ℕ). IsNumberOrder n z) (sym c.deref.ensures.value)
     (order_moved n c.in_ok-order.order.items c.sort_by_key.new.self.items c.sort_by_key.ensures.permutation numbers))
 
 pub returns : goal.returns
 returns c =
     let n = length c.args.parts.now.assigns.items in
     let whole : c.len-count.result ≡ n = search rules in
-    let numbers : IsOrder n c.in_ok-order.order.items = record { all = λ k h. c.in_ok-order.ensures.all k (omega (arith, h, whole)); below = λ k h. let l = c.in_ok-order.ensures.below k h in omega (arith, l, whole) } in
+    let numbers : IsNumberOrder n c.in_ok-order.order.items = record { all = λ k h. c.in_ok-order.ensures.all k (omega (arith, h, whole)); below = λ k h. let l = c.in_ok-order.ensures.below k h in omega (arith, l, whole) } in
     record {
       is_order = order_moved n c.in_ok-order.order.items c.sort_by_key.new.self.items c.sort_by_key.ensures.permutation
           numbers;

@@ -5,7 +5,7 @@ use Rattle.std.proofs.Common.{false}
 use Rattle.std.proofs.lemmas.List.{get_or_default}
 use Rattle.ar_base.proofs.Standing.{stands_item}
 use Rattle.gts_core.specs.declared.system.Variable.{Variable}
-use Rattle.typed_expr.specs.Rows.{row_at}
+use Rattle.typed_expr.specs.Rows.{known_row_at}
 use Rattle.flow_propagate.specs.Totals.{completed_value}
 use Rattle.flow_propagate.proofs.Putting.{row_here}
 use Rattle.flow_propagate.proofs.Totalling.{completed_more}
@@ -18,7 +18,7 @@ loop-place-preserved c =
     let is = subst (λ (z : List Variable). c.variable-item.result ≡ get_or z c.loop-place.place c.variable-item.result)
     items c.variable-item.is in
     let in_values : c.loop-place.place < length c.args.values.now = omega (arith, below, c.requires.long) in
-    let row : c.deref.result.now ≡ row_at c.args.table.now.rows.items c.loop-place.place =
+    let row : c.deref.result.now ≡ known_row_at c.args.table.now.rows.items c.loop-place.place =
     c.deref.ensures.value ∙ sym (row_here c.args.table.now.rows.items c.loop-place.place c.index.result.now
     (omega (arith, below, c.requires.rows)) c.index.ensures) in
     let v = get_or c.args.values.now c.loop-place.place (Truth false) in

@@ -6,9 +6,9 @@ use Rattle.gts_core.specs.View.{net_of, numbered}
 use Rattle.gts_core.specs.declared.system.Observer.{Observer}
 use Rattle.gts_core.specs.declared.system.GtsParts.{GtsParts}
 use Rattle.gts_core.proofs.Viewing.{variables_long}
-use Rattle.flow_reasons.specs.ReasonsInside.{IsCone}
+use Rattle.flow_reasons.specs.ReasonsInside.{IsReasonCone}
 use Rattle.flow_reasons.specs.Answers.{numbers_of, reasons_of}
-use Rattle.flow_reasons.specs.Cones.{AreOrderly, AreMembers, AreReached}
+use Rattle.flow_reasons.specs.Cones.{AreOrderly, AreMembers, AreReachedVariables}
 use Rattle.flow_reasons.proofs.Gathering.{variables_as}
 use Rattle.flow_reasons.proofs.Followed.{orderly, first_below, is_cone, names_numbers}
 use Rattle.flow_reasons.proofs.cones.cone.Goals as goal
@@ -56,10 +56,10 @@ returns c = λ one so.
     c.index.ensures) in
     let order = subst (λ n. AreOrderly n rs) (variables_long 0 p.variables.items)
     (orderly (net_of p) c.requires.reasons.values rs c.requires.reasons.are) in
-    let reached = subst (λ (z : List VarId). AreReached rs (numbers_of z) seen) c.deref.ensures.value
+    let reached = subst (λ (z : List VarId). AreReachedVariables rs (numbers_of z) seen) c.deref.ensures.value
     c.in_ok-seen.ensures.reached in
     variables_as _ _ c.members.result
-    (λ v h. subst (λ (z : Observer). IsCone (net_of p) rs (numbered z.value) (numbers_of v.items))
+    (λ v h. subst (λ (z : Observer). IsReasonCone (net_of p) rs (numbered z.value) (numbers_of v.items))
     (stands_one p.observers.items c.args.observer o one st so)
     (is_cone p c.parts-parts.ensures.sound o (one_here p.observers.items c.args.observer o st) rs first
     (names_numbers o.value c.new-first.result.items c.add_named.new.found.items c.new-first.ensures.items

@@ -4,7 +4,7 @@ use Rattle.flow_reasons.proofs.RoundStanding.{no_two, descends, reasons_one}
 use Rattle.ar_base.proofs.Sets.{same_ascending}
 use Rattle.ar_meaning.proofs.StatesAlone.{same_flows, turned as turned_states}
 use Rattle.flow_reasons.proofs.RoundTotals.{states_of, reasons_same}
-use Rattle.typed_expr.specs.PairsInside.{turned}
+use Rattle.typed_expr.specs.PairsInside.{turned_pairs}
 use Rattle.typed_expr.proofs.Renaming.{renames_turned}
 use Rattle.ar_meaning.specs.FlatOf.{IsNumber}
 use Rattle.ar_meaning.proofs.FlatSystems.{flat_image, flat_back}
@@ -46,7 +46,7 @@ returns-clause-flat_rounds g c = λ things sys flat of t k x n v s.
     let on = (flat_image things sys flat of).net in
     let off = (flat_back things sys flat of).net in (
       λ h. round_there (IsNumber things) sys.net flat.net on t k x n v s h,
-      λ h. round_there (turned (IsNumber things))
+      λ h. round_there (turned_pairs (IsNumber things))
           flat.net sys.net off t k n x v s h,
     )
 
@@ -56,7 +56,7 @@ returns-clause-flat_reasons g c = λ things sys flat of t rs.
     let off = (flat_back things sys flat of).net in (
       λ d. reasons_there (IsNumber things) sys.net flat.net on t on.variables d,
       λ d. reasons_there
-          (turned (IsNumber things)) flat.net sys.net off t off.variables d,
+          (turned_pairs (IsNumber things)) flat.net sys.net off t off.variables d,
     )
 
 pub returns-clause-flat_cones : goal.returns-clause-flat_cones
@@ -64,6 +64,6 @@ returns-clause-flat_cones g c = λ things sys flat of reasons e f q n.
     let on = (flat_image things sys flat of).net in
     let off = (flat_back things sys flat of).net in (
       λ h. cone_there (IsNumber things) sys.net flat.net on reasons e f q h,
-      λ h. cone_there (turned (IsNumber things)) flat.net sys.net off reasons f e
+      λ h. cone_there (turned_pairs (IsNumber things)) flat.net sys.net off reasons f e
           (record { renames = renames_turned (IsNumber things) q.renames }) h,
     )

@@ -2,7 +2,7 @@ use Rattle.std.proofs.Common.{◌≡◌, ◌<◌, ◌≤◌, ◌+◌, ◌^◌, �
 use Rattle.ar_base.specs.Lists.{IsOneOf}
 use Rattle.ar_base.proofs.Standing.{stands_some, stands_within, one_here}
 use Rattle.fact_marks.specs.declared.Mark.{Mark}
-use Rattle.flow_reasons.specs.Marks.{AreMarks, unknown_count}
+use Rattle.flow_reasons.specs.Marks.{AreRoundMarks, unknown_count}
 use Rattle.flow_reasons.specs.Bringing.{BringsAt, BringAll, NameOne}
 use Rattle.fact_marks.proofs.Placing.{written}
 use Rattle.flow_reasons.proofs.Counting.{count_most, open_counts}
@@ -14,8 +14,8 @@ all_rounds-init c =
     let p = c.args.parts.now in
     let marks = c.in_ok-marks.marks.items in
     let h = count_most marks in
-    let are : AreMarks p c.args.values.now 0 marks =
-    subst (λ (z : List Mark). AreMarks p c.args.values.now 0 z) (sym c.in_ok-marks.ensures)
+    let are : AreRoundMarks p c.args.values.now 0 marks =
+    subst (λ (z : List Mark). AreRoundMarks p c.args.values.now 0 z) (sym c.in_ok-marks.ensures)
     (marks_zero p c.requires.sound c.args.values.now c.requires.standing) in
     record {
       are = are;
@@ -96,7 +96,7 @@ all_rounds-preserved c =
     c.all_rounds.invariant.are found c.all_rounds.invariant.all
     (c.all_rounds.round + 1) (add-one c.all_rounds.round) new c.in_ok-fresh.fresh.items d in
     record {
-      are = subst (λ (z : List Mark). AreMarks p c.args.values.now (c.all_rounds.round + 1) z) (sym e) are;
+      are = subst (λ (z : List Mark). AreRoundMarks p c.args.values.now (c.all_rounds.round + 1) z) (sym e) are;
       all = subst (λ (z : List Mark). BringAll p c.args.values.now z c.in_ok-found-2.found.items)
           c.deref-in-all_rounds-3.ensures.value c.in_ok-found-2.ensures;
       few = subst (λ (z : List Mark). c.all_rounds.round + 1 + unknown_count z ≤ length p.variables.items) (sym e) few;

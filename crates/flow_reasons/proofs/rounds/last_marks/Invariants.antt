@@ -1,11 +1,11 @@
 use Rattle.std.proofs.Common.{◌+◌, ◌≤◌, length}
-use Rattle.flow_reasons.specs.Marks.{AreMarks, unknown_count}
+use Rattle.flow_reasons.specs.Marks.{AreRoundMarks, unknown_count}
 use Rattle.flow_reasons.specs.Bringing.{BringAll}
 use Rattle.flow_reasons.proofs.rounds.last_marks.Given as goal
 
 abbrev pub invariant-all_rounds : goal.invariant-all_rounds
 invariant-all_rounds l = record {
-  are : AreMarks l.parts l.values l.round l.marks.items;
+  are : AreRoundMarks l.parts l.values l.round l.marks.items;
   all : BringAll l.parts l.values l.marks.items l.found.items;
   few : l.round + unknown_count l.marks.items ≤ length l.parts.variables.items;
 }

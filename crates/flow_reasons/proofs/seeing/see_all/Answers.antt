@@ -3,7 +3,7 @@ use Rattle.ar_base.specs.Lists.{IsOneOf, Stands}
 use Rattle.ar_base.specs.Numbers.{VarId}
 use Rattle.ar_base.proofs.Standing.{stands_get, stands_map, one_here}
 use Rattle.flow_reasons.specs.Answers.{numbers_of}
-use Rattle.flow_reasons.specs.Cones.{Sees, SeesAll}
+use Rattle.flow_reasons.specs.Cones.{SeesVariable, SeesAll}
 use Rattle.std.proofs.Common.{take}
 use Rattle.flow_reasons.proofs.SeenLists.{sees_none, sees_new, sees_again, sees_next, numbers_next}
 use Rattle.flow_reasons.proofs.seeing.see_all.Goals as goal
@@ -48,20 +48,20 @@ loop-variable-preserved c =
     let inside : n < length seen = omega (arith, h, before.long) in
     let mark = stands_get seen n false inside in
     let all = numbers_of (take (i + 1) xs) in
-    let next : (last : List Bool) (more : List ℕ) → Sees n seen last found more → SeesAll all first last start more =
+    let next : (last : List Bool) (more : List ℕ) → SeesVariable n seen last found more → SeesAll all first last start more =
     λ last more s. sees_next (numbers_of (take i xs)) all n first seen last start found more
     (numbers_next xs i past c.loop-variable-test.true) before s in
     let new = c.if-not-seen-n.seen in
     let grown = c.if-not-seen-n.found.items in
     elim c.if-not-seen-n.branch [
       | then-not-seen-n+in_ok-push w ↦
-          next new grown (subst (λ (z : List Bool). Sees n seen z found grown) (sym w.seen-is)
+          next new grown (subst (λ (z : List Bool). SeesVariable n seen z found grown) (sym w.seen-is)
           (sees_new n seen found grown before.are inside
           (subst (λ (z : Bool). Stands seen n z) w.if-not-seen-n.true mark)
           (ap (λ (z : Vec ℕ Global). z.items) w.found-is ∙ w.in_ok-push.ensures.items)))
       | else-not-seen-n w ↦
-          next new grown (subst (λ (z : List Bool). Sees n seen z found grown) (sym w.seen-is)
-          (subst (λ (z : List ℕ). Sees n seen seen found z)
+          next new grown (subst (λ (z : List Bool). SeesVariable n seen z found grown) (sym w.seen-is)
+          (subst (λ (z : List ℕ). SeesVariable n seen seen found z)
           (sym (ap (λ (z : Vec ℕ Global). z.items) w.found-is))
           (sees_again n seen found before.are (subst (λ (z : Bool). Stands seen n z) w.if-not-seen-n.false mark))))
     ]

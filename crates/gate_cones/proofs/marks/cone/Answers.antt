@@ -5,7 +5,7 @@ use Rattle.ar_base.specs.Lists.{Stands}
 use Rattle.ar_base.proofs.Standing.{stands_map}
 use Rattle.eq_core.specs.Ordered.{AreBelow}
 use Rattle.eq_core.specs.Views.{gate_of, operand_of}
-use Rattle.gate_cones.specs.Marks.{Marks}
+use Rattle.gate_cones.specs.Marks.{MarksOperands}
 use Rattle.gate_cones.proofs.Marking.{IsMarking, all_below, marking_begins, marking_passes, marking_on, marking_ends}
 use Rattle.gate_cones.proofs.marks.cone.Goals as goal
 
@@ -23,7 +23,7 @@ loop-left-init c =
     (subst (λ n. IsMarking (map gate_of gates) (operand_of c.args.root) n c.mark.new.marks) long
     (marking_begins (map gate_of gates) (operand_of c.args.root) none c.mark.new.marks begun
     (ap length begun ∙ length-replicate (length (map gate_of gates)) false)
-    (subst (λ z. Marks (operand_of c.args.root ∷ []) z c.mark.new.marks) c.deref_mut.ensures.value c.mark.ensures)))
+    (subst (λ z. MarksOperands (operand_of c.args.root ∷ []) z c.mark.new.marks) c.deref_mut.ensures.value c.mark.ensures)))
 
 pub index-requires : goal.index-requires
 index-requires c =
@@ -72,8 +72,8 @@ loop-left-preserved-then-index c =
     (marking_on (map gate_of gates) (operand_of c.args.root) c.requires.ordered c.loop-left.left l
     (omega (arith, c.loop-left-test.true)) marks i
     (gate_of gate) c.mark_all.new.marks (stands_map gate_of gates l gate stands) marked
-    (subst (λ os. Marks (map operand_of os) marks c.mark_all.new.marks) (sym same)
-    (subst (λ z. Marks (map operand_of c.deref.result.now) z c.mark_all.new.marks) c.deref_mut-then-index.ensures.value
+    (subst (λ os. MarksOperands (map operand_of os) marks c.mark_all.new.marks) (sym same)
+    (subst (λ z. MarksOperands (map operand_of c.deref.result.now) z c.mark_all.new.marks) c.deref_mut-then-index.ensures.value
     c.mark_all.ensures)))
 
 pub loop-left-preserved : goal.loop-left-preserved

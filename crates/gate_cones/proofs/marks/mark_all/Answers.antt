@@ -2,7 +2,7 @@ use Rattle.std.proofs.Common.{◌∷◌, [], map, take, get_or, take_all, sym, s
 use Rattle.std.proofs.lemmas.List.{take_more, map-append}
 use Rattle.eq_core.specs.Views.{operand_of}
 use Rattle.eq_core.specs.declared.joints.Operand.TheVariants.{Always}
-use Rattle.gate_cones.specs.Marks.{Marks}
+use Rattle.gate_cones.specs.Marks.{MarksOperands}
 use Rattle.gate_cones.proofs.Marking.{marks_none, marks_then}
 use Rattle.gate_cones.proofs.marks.mark_all.Goals as goal
 
@@ -14,13 +14,13 @@ loop-operand-preserved c =
     let k = c.loop-operand.operand-index in
     let operands = c.args.operands.now in
     let o = get_or operands k Always in
-    subst (λ z. Marks (map operand_of z) c.args.marks.now c.mark.new.marks)
+    subst (λ z. MarksOperands (map operand_of z) c.args.marks.now c.mark.new.marks)
     (sym (take_more operands k Always c.loop-operand-test.true))
-    (subst (λ z. Marks z c.args.marks.now c.mark.new.marks) (sym (map-append operand_of (take k operands) (o ∷ [])))
+    (subst (λ z. MarksOperands z c.args.marks.now c.mark.new.marks) (sym (map-append operand_of (take k operands) (o ∷ [])))
     (marks_then (map operand_of (take k operands)) (operand_of o ∷ []) c.args.marks.now c.loop-operand.marks
     c.mark.new.marks c.loop-operand.invariant c.mark.ensures))
 
 pub returns : goal.returns
 returns c =
-    subst (λ z. Marks (map operand_of z) c.args.marks.now c.loop-operand.marks)
+    subst (λ z. MarksOperands (map operand_of z) c.args.marks.now c.loop-operand.marks)
     (take_all c.loop-operand.operand-index c.args.operands.now c.loop-operand-test.false) c.loop-operand.invariant

@@ -2,7 +2,7 @@ use Rattle.std.proofs.Common.{◌≡◌, map, Ok, Err, sym, ap, ◌∙◌, subst
 use Rattle.std.specs.List.{All}
 use Rattle.std.proofs.lemmas.Result.{err_from_is_err_and}
 use Rattle.zdd_families.specs.Families.{minimal}
-use Rattle.zdd_nodes.specs.Nodes.{family, Draws, IsNumber}
+use Rattle.zdd_nodes.specs.Nodes.{family, Draws, IsFamilyNumber}
 use Rattle.zdd_nodes.specs.declared.NodeFault.{NodeFault}
 use Rattle.zdd_nodes.specs.declared.NodeFault.TheVariants.{Full}
 use Rattle.eq_core.specs.Values.{value_at}
@@ -36,7 +36,7 @@ returns-then-conflict-ne0-clause-sets c = λ order trees is_all.
     (operand_of c.args.equations.now.conflict))) c.args.ops c.least.new.ops (Ok c.in_ok-conflict.conflict))
     c.deref.ensures.value c.in_ok-conflict.ensures.drawn)
     c.in_ok-conflict.ensures.sound c.if-conflict-ne0.true order trees is_all in
-    let y = subst (λ z. IsNumber z c.in_ok-conflict.conflict.n
+    let y = subst (λ z. IsFamilyNumber z c.in_ok-conflict.conflict.n
     × ListsLeastUpTo order trees (value_at (gates_of c.args.equations.now) (operand_of c.args.equations.now.conflict))
     (family z c.in_ok-conflict.conflict.n))
     (sym c.into_store.ensures.same) x.1 in
@@ -88,7 +88,7 @@ returns-clause-sets c = λ order trees is_all.
     (minimal (family_at (family c.least.new.ops c.args.firable.n) (map gate_of z)
     (operand_of c.args.equations.now.top))) c.least.new.ops c.least-2.new.ops (Ok c.in_ok-top.top))
     c.deref-2.ensures.value c.in_ok-top.ensures.drawn) order trees is_all in
-    let y = subst (λ z. IsNumber z c.in_ok-top.top.n
+    let y = subst (λ z. IsFamilyNumber z c.in_ok-top.top.n
     × ListsLeastUpTo order trees (value_at (gates_of c.args.equations.now) (operand_of c.args.equations.now.top))
     (family z c.in_ok-top.top.n))
     (sym c.into_store-2.ensures.same) x.1 in

@@ -6,7 +6,7 @@ use Rattle.ar_firing.specs.Trees.{AreTrees}
 use Rattle.mode_trees.specs.Views.{tree_of, trees_of}
 use Rattle.mode_diagrams.specs.Trees.{AreNumbered, AreApart}
 use Rattle.mode_diagrams.specs.Costs.{HaveDifferentEvents}
-use Rattle.mode_diagrams.specs.Numbers.{AreNumbersOf, HasFewEdges, IsByModes}
+use Rattle.mode_diagrams.specs.Numbers.{AreNumberedTrees, HasFewEdges, IsByModes}
 use Rattle.diagram_steps.specs.Order.{Ascend}
 use Rattle.mode_diagrams.proofs.Arranging.{firable_by_modes}
 use Rattle.gate_diagrams.proofs.by_modes.by_modes.Goals as goal
@@ -19,8 +19,8 @@ numbered-requires c = record {
 pub answer_by_modes-requires-clause-numbered : goal.answer_by_modes-requires-clause-numbered
 answer_by_modes-requires-clause-numbered c =
     let view = tree_of (λ n. n) in
-    let numbers = subst (λ z. AreNumbersOf (map view z) c.in-Some.numbers.items) c.deref.ensures.value
-    (subst (λ o. IfSome o (λ ns. AreNumbersOf (map view c.deref.result.now) ns.items)) c.in-Some.is
+    let numbers = subst (λ z. AreNumberedTrees (map view z) c.in-Some.numbers.items) c.deref.ensures.value
+    (subst (λ o. IfSome o (λ ns. AreNumberedTrees (map view c.deref.result.now) ns.items)) c.in-Some.is
     c.in_ok-numbers.ensures.numbers) in
     let same = subst (λ o. IfSome o (λ ns. IsPermutation c.in-Some.numbers.items ns.items)) c.in-Some-2.is
     c.in_ok-trees.ensures.same in
@@ -32,8 +32,8 @@ answer_by_modes-requires-clause-numbered c =
 pub answer_by_modes-requires-clause-apart : goal.answer_by_modes-requires-clause-apart
 answer_by_modes-requires-clause-apart c =
     let view = tree_of (λ n. n) in
-    let numbers = subst (λ z. AreNumbersOf (map view z) c.in-Some.numbers.items) c.deref.ensures.value
-    (subst (λ o. IfSome o (λ ns. AreNumbersOf (map view c.deref.result.now) ns.items)) c.in-Some.is
+    let numbers = subst (λ z. AreNumberedTrees (map view z) c.in-Some.numbers.items) c.deref.ensures.value
+    (subst (λ o. IfSome o (λ ns. AreNumberedTrees (map view c.deref.result.now) ns.items)) c.in-Some.is
     c.in_ok-numbers.ensures.numbers) in
     let same = subst (λ o. IfSome o (λ ns. IsPermutation c.in-Some.numbers.items ns.items)) c.in-Some-2.is
     c.in_ok-trees.ensures.same in
@@ -45,8 +45,8 @@ answer_by_modes-requires-clause-apart c =
 pub answer_by_modes-requires-clause-different : goal.answer_by_modes-requires-clause-different
 answer_by_modes-requires-clause-different c =
     let view = tree_of (λ n. n) in
-    let numbers = subst (λ z. AreNumbersOf (map view z) c.in-Some.numbers.items) c.deref.ensures.value
-    (subst (λ o. IfSome o (λ ns. AreNumbersOf (map view c.deref.result.now) ns.items)) c.in-Some.is
+    let numbers = subst (λ z. AreNumberedTrees (map view z) c.in-Some.numbers.items) c.deref.ensures.value
+    (subst (λ o. IfSome o (λ ns. AreNumberedTrees (map view c.deref.result.now) ns.items)) c.in-Some.is
     c.in_ok-numbers.ensures.numbers) in
     let same = subst (λ o. IfSome o (λ ns. IsPermutation c.in-Some.numbers.items ns.items)) c.in-Some-2.is
     c.in_ok-trees.ensures.same in
@@ -66,8 +66,8 @@ answer_by_modes-requires-clause-small c =
 pub returns : goal.returns
 returns c = λ all l.
     let view = tree_of (λ n. n) in
-    let numbers = subst (λ z. AreNumbersOf (map view z) c.in-Some.numbers.items) c.deref.ensures.value
-    (subst (λ o. IfSome o (λ ns. AreNumbersOf (map view c.deref.result.now) ns.items)) c.in-Some.is
+    let numbers = subst (λ z. AreNumberedTrees (map view z) c.in-Some.numbers.items) c.deref.ensures.value
+    (subst (λ o. IfSome o (λ ns. AreNumberedTrees (map view c.deref.result.now) ns.items)) c.in-Some.is
     c.in_ok-numbers.ensures.numbers) in
     let same = subst (λ o. IfSome o (λ ns. IsPermutation c.in-Some.numbers.items ns.items)) c.in-Some-2.is
     c.in_ok-trees.ensures.same in

@@ -10,7 +10,7 @@ use Rattle.eq_core.specs.Gates.{GateIs}
 use Rattle.eq_core.specs.ValuesInside.{IsBelow}
 use Rattle.gate_cones.specs.Cones.{InGateCone}
 use Rattle.gate_diagrams.specs.Needed.{family_at, itself, IsNeeded}
-use Rattle.gate_diagrams.specs.Drawing.{IsReady, IsTable}
+use Rattle.gate_diagrams.specs.Drawing.{IsGateReady, IsGateTabled}
 use Rattle.gate_diagrams.proofs.Tables as t
 use Rattle.gate_diagrams.proofs.draw.draw.Goals as goal
 
@@ -42,7 +42,7 @@ next_gate-requires-clause-ready c = λ marked.
     let set : Stands marks number true =
     subst (λ b. Stands marks number b) marked
     (slice_get_read marks (length marks) number c.index.result.now refl inside c.index.ensures) in
-    subst (λ z. IsReady (family c.loop-number.ops c.args.firable.n) (map gate_of gates) (operand_of c.args.root)
+    subst (λ z. IsGateReady (family c.loop-number.ops c.args.firable.n) (map gate_of gates) (operand_of c.args.root)
     (length z) (gate_of gate) z c.loop-number.ops) (sym c.deref.ensures.value)
     (t.ready_next (map gate_of c.args.gates.now) (operand_of c.args.root) c.args.firable.n c.args.ops.now
     c.requires.firable_in c.loop-number.number c.loop-number.table.items c.loop-number.ops c.loop-number.invariant
@@ -116,7 +116,7 @@ operand-requires-clause-table c =
     let long = length-map c.args.gates.now gate_of in
     let end : c.loop-number.number ≡ length c.args.gates.now =
     omega (arith, c.loop-number.auto.number-end, c.loop-number-test.false) in
-    subst (λ z. IsTable (family c.loop-number.ops c.args.firable.n) (map gate_of c.args.gates.now) z c.loop-number.ops
+    subst (λ z. IsGateTabled (family c.loop-number.ops c.args.firable.n) (map gate_of c.args.gates.now) z c.loop-number.ops
     (operand_of c.args.root)) (sym c.deref-2.ensures.value)
     (t.root_table (map gate_of c.args.gates.now) (operand_of c.args.root) c.args.firable.n c.args.ops.now
     c.requires.firable_in c.loop-number.number c.loop-number.table.items c.loop-number.ops c.loop-number.invariant

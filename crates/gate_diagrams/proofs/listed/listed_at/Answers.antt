@@ -2,14 +2,14 @@ use Rattle.std.proofs.Common.{map, sym, subst}
 use Rattle.std.proofs.lemmas.List.{length-map}
 use Rattle.eq_core.specs.ValuesInside.{IsBelow}
 use Rattle.eq_core.specs.Views.{gate_of, operand_of}
-use Rattle.mode_diagrams.specs.Agreement.{AreClosed}
+use Rattle.mode_diagrams.specs.Agreement.{AreClosedMarks}
 use Rattle.gate_diagrams.proofs.ByModes.{few_small, marks_closed, enough_kept, listed_or_not}
 use Rattle.gate_diagrams.proofs.listed.listed_at.Goals as goal
 
 pub draw-requires-clause-closed : goal.draw-requires-clause-closed
 draw-requires-clause-closed c =
     let gates = map gate_of c.args.gates.now in
-    subst (AreClosed gates (operand_of c.args.root)) (sym c.deref.ensures.value)
+    subst (AreClosedMarks gates (operand_of c.args.root)) (sym c.deref.ensures.value)
     (marks_closed gates (operand_of c.args.root) c.in_ok-marks.marks.items c.requires.ordered
     (subst (λ n. IsBelow n (operand_of c.args.root)) (sym (length-map c.args.gates.now gate_of)) c.requires.root_in)
     c.in_ok-marks.ensures)

@@ -1,7 +1,7 @@
 use Rattle.std.proofs.Common.{sym, ◌∙◌, subst}
 use Rattle.zdd_nodes.specs.Nodes.{NodeId}
 use Rattle.zdd_nodes.proofs.Growing.{Grows-then}
-use Rattle.mode_trees.specs.Views.{row_of}
+use Rattle.mode_trees.specs.Views.{edge_row}
 use Rattle.gate_diagrams.specs.Paths.{IsOneSet}
 use Rattle.gate_diagrams.proofs.Adding.{extends}
 use Rattle.gate_diagrams.proofs.Tabling.{some_one, tabled_more}
@@ -21,6 +21,6 @@ returns-clause-grows c =
 pub returns-clause-tabled : goal.returns-clause-tabled
 returns-clause-tabled c = λ tree k t at i.
     let e = c.in_ok-set.ensures in
-    tabled_more tree t k (row_of (λ n. n) c.args.edge.now) at c.args.modes.now c.put.new.modes c.args.ops.now
+    tabled_more tree t k (edge_row (λ n. n) c.args.edge.now) at c.args.modes.now c.put.new.modes c.args.ops.now
     c.with_event.new.ops c.union.new.self c.args.paths.n i c.number_of-before.result c.in_ok-set.set
     c.number_of-before.ensures e.more c.in_ok-put.ensures e.grows c.union.result c.union.ensures.drawn

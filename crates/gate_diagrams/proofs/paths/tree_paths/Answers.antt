@@ -1,7 +1,7 @@
 use Rattle.std.proofs.Common.{◌≡◌, length, get_or, ap, arith}
 use Rattle.std.proofs.lemmas.List.{length-map}
 use Rattle.std.proofs.lemmas.Bool.Decides.{nat_tests}
-use Rattle.mode_trees.specs.Views.{row_of, tree_of}
+use Rattle.mode_trees.specs.Views.{edge_row, tree_of}
 use Rattle.zdd_nodes.proofs.Growing.{Grows-none, Grows-then}
 use Rattle.gate_diagrams.proofs.Tabling.{no_edge, edge_stands, edgeless_listed, tabled_first, tabled_listed}
 use Rattle.gate_diagrams.proofs.paths.tree_paths.Goals as goal
@@ -20,7 +20,7 @@ returns-then-is_empty-clause-listed c =
       c.if-is_empty.true,
       c.is_empty.ensures,
       c.args.tree.now.edges.ok,
-      length-map c.args.tree.now.edges.items (row_of (λ n. n)),
+      length-map c.args.tree.now.edges.items (edge_row (λ n. n)),
     ) in
     edgeless_listed tree c.requires.tree c.args.ops.now c.new.result.n c.new.ensures c.requires.sound none
 
@@ -41,7 +41,7 @@ one_more-requires-clause-known c =
     let items = c.deref-edge-items.result.now in
     let at = edge_stands c.args.tree.now items k c.deref-edge-items.ensures.value c.loop-edge-test.true in
     let edge = get_or items k no_edge in
-    (c.loop-edge.invariant.2.known edge.from (c.requires.tree.from k (row_of (λ n. n) edge) at)).0
+    (c.loop-edge.invariant.2.known edge.from (c.requires.tree.from k (edge_row (λ n. n) edge) at)).0
 
 pub returns-in_err-paths-clause-grows : goal.returns-in_err-paths-clause-grows
 returns-in_err-paths-clause-grows c =
@@ -68,6 +68,6 @@ returns-clause-listed c =
       c.loop-edge-test.false,
       l.auto.edge-index-end,
       ap length c.deref-edge-items.ensures.value,
-      length-map c.args.tree.now.edges.items (row_of (λ n. n)),
+      length-map c.args.tree.now.edges.items (edge_row (λ n. n)),
     ) in
     tabled_listed tree c.requires.tree l.edge-index l.modes l.ops l.paths.n l.invariant.0 all l.invariant.2

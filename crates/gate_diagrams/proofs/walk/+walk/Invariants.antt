@@ -1,5 +1,5 @@
-use Rattle.gate_diagrams.specs.Walked.{total}
+use Rattle.gate_diagrams.specs.Walked.{sum_of_numbers}
 use Rattle.gate_diagrams.proofs.walk.+walk.Given as goal
 
 abbrev pub decreases-walk : goal.decreases-walk
-decreases-walk l = total l.state.left.items
+decreases-walk l = sum_of_numbers l.state.left.items

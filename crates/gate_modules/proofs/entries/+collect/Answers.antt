@@ -2,7 +2,7 @@ use Rattle.std.proofs.Common.{sym, ap, ◌∙◌, subst}
 use Rattle.zdd_nodes.specs.Nodes.{family}
 use Rattle.event_bounds.specs.Bounds.{node_numbers}
 use Rattle.event_bounds.proofs.Numbering.{numbers_push}
-use Rattle.gate_modules.specs.Entries.{IsCovered, Adds}
+use Rattle.gate_modules.specs.Entries.{IsCovered, AddsSections}
 use Rattle.gate_modules.proofs.Entering.{covered_more, covered_node, seen_set, seen_more, adds_node, covered_leaf, adds_leaf}
 use Rattle.gate_modules.proofs.entries.+collect.Goals as goal
 
@@ -37,7 +37,7 @@ returns-in_ok-push-in-None-clause-covered t c =
 
 pub returns-in_ok-push-in-None-clause-added : goal.returns-in_ok-push-in-None-clause-added
 returns-in_ok-push-in-None-clause-added t c =
-    subst (λ z. Adds c.args.store.now c.args.from c.args.number.n (node_numbers c.args.entries.now.items) z)
+    subst (λ z. AddsSections c.args.store.now c.args.from c.args.number.n (node_numbers c.args.entries.now.items) z)
     (sym (ap node_numbers c.in_ok-push-in-None.ensures.items ∙ numbers_push c.args.entries.now.items c.args.number))
     (adds_leaf c.args.store.now c.args.from c.args.number.n (node_numbers c.args.entries.now.items) c.requires.in_store
     c.in-None.ensures.halves)

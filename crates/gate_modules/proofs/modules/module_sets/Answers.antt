@@ -3,7 +3,7 @@ use Rattle.std.proofs.lemmas.List.{length-map}
 use Rattle.ar_base.specs.Lists.{Stands, IsOneOf}
 use Rattle.ar_base.proofs.Standing.{one_here, stands_map}
 use Rattle.zdd_families.specs.Families.{Family}
-use Rattle.zdd_nodes.specs.Nodes.{NodeId, Stored, family, IsNumber}
+use Rattle.zdd_nodes.specs.Nodes.{NodeId, Stored, family, IsFamilyNumber}
 use Rattle.gate_modules.specs.Parts.{AreSomeHeads, AddsSomeHeads}
 use Rattle.gate_modules.specs.ShortenedInside.{set_of}
 use Rattle.event_bounds.specs.Bounds.{node_numbers, AllEnd, IsReference}
@@ -30,7 +30,7 @@ returns-then-range-clause-sets c = λ m.
     omega (arith, some, c.if-range.true)
 
 pub first_with_event-requires : goal.first_with_event-requires
-first_with_event-requires c = inside (IsNumber c.args.store.now) c.deref.result.now c.in_ok-entries.entries.items
+first_with_event-requires c = inside (IsFamilyNumber c.args.store.now) c.deref.result.now c.in_ok-entries.entries.items
     c.deref.ensures.value c.in_ok-entries.ensures.inside
 
 pub returns-in_default-clause-sets : goal.returns-in_default-clause-sets
@@ -44,7 +44,7 @@ entry_exit-requires-clause-some c = let h = c.in-Some.ensures.event in event_not
 
 pub entries_agree-requires-clause-in_store : goal.entries_agree-requires-clause-in_store
 entries_agree-requires-clause-in_store c =
-    inside (IsNumber c.args.store.now) c.deref-2.result.now c.in_ok-entries.entries.items c.deref-2.ensures.value
+    inside (IsFamilyNumber c.args.store.now) c.deref-2.result.now c.in_ok-entries.entries.items c.deref-2.ensures.value
     c.in_ok-entries.ensures.inside
 
 pub entries_agree-requires-clause-room : goal.entries_agree-requires-clause-room

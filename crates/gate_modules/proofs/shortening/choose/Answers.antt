@@ -1,7 +1,7 @@
 use Rattle.std.proofs.Common.{◌∷◌, [], map, get_or, refl, sym, ap, ◌∙◌, subst, take_all}
 use Rattle.std.proofs.lemmas.List.{map-append}
 use Rattle.zdd_nodes.specs.Nodes.{family}
-use Rattle.gate_modules.specs.Choosing.{IsWithin, IsWithinNone, AreChosenSoFar}
+use Rattle.gate_modules.specs.Choosing.{IsRangeCovered, IsWithinNone, AreChosenSoFar}
 use Rattle.gate_modules.specs.Choosing.Considers.{within, no_module, is_new}
 use Rattle.gate_modules.specs.ShortenedInside.{module_of, set_of}
 use Rattle.gate_modules.specs.declared.ranges.Range.{Range}
@@ -31,7 +31,7 @@ loop-range-preserved-then-is_within c = (
   one_more (family c.args.store.now c.args.root.n) c.args.ranges.now c.requires.ranges c.loop-range.range-index _
       c.loop-range-test.true c.loop-range.chosen.items (map module_of c.loop-range.modules.items)
       c.loop-range.invariant.2 _ _
-      (within (subst (λ z. IsWithin z (get_or c.args.ranges.now c.loop-range.range-index no_range)) c.deref.ensures.value
+      (within (subst (λ z. IsRangeCovered z (get_or c.args.ranges.now c.loop-range.range-index no_range)) c.deref.ensures.value
       (c.is_within.ensures.yes c.if-is_within.true))),
 )
 

@@ -1,6 +1,6 @@
 use Rattle.std.proofs.Common.{[], map, sym, subst}
 use Rattle.zdd_nodes.specs.Nodes.{family}
-use Rattle.gate_modules.specs.Forms.{AreOfDifferentUnits, IsFit, AddsForms}
+use Rattle.gate_modules.specs.Forms.{AreOfDifferentUnits, PassesTaken, AddsForms}
 use Rattle.gate_modules.specs.ShortenedInside.{module_of, short_form_of}
 use Rattle.gate_modules.proofs.Choosing.{different, shortened, fit_root}
 use Rattle.gate_modules.proofs.Standing.{stand_for}
@@ -14,7 +14,7 @@ add_forms-requires-clause-units c =
 
 pub add_forms-requires-clause-fit : goal.add_forms-requires-clause-fit
 add_forms-requires-clause-fit c =
-    subst (λ z. IsFit z [] (family c.args.family.now.store c.args.family.now.root.n)) (sym c.deref.ensures.value)
+    subst (λ z. PassesTaken z [] (family c.args.family.now.store c.args.family.now.root.n)) (sym c.deref.ensures.value)
     (fit_root c.args.family.now.store c.len.ensures.sound c.args.family.now.root.n c.requires.root c.args.ranges.now
     c.choose.new.chosen.items c.in_ok-choose.ensures.sound)
 

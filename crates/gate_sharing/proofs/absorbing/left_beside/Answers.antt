@@ -5,7 +5,7 @@ use Rattle.eq_core.specs.declared.joints.Operand.TheVariants.{Always}
 use Rattle.gate_sharing.specs.declared.literals.Literal.{Literal}
 use Rattle.gate_sharing.specs.declared.literals.Literal.TheVariants as l
 use Rattle.gate_sharing.specs.Absorbing.{AreEnoughBeside}
-use Rattle.gate_sharing.specs.Literals.{operands_of}
+use Rattle.gate_sharing.specs.Literals.{literal_operands}
 use Rattle.gate_sharing.specs.Images.{with_sign}
 use Rattle.gate_sharing.proofs.Absorbings.{part_never, part_passes, part_kept}
 use Rattle.gate_sharing.proofs.absorbing.left_beside.Goals as goal
@@ -20,7 +20,7 @@ returns-in-Never c =
     let is : operand_of c.for_joint.result ≡ with_sign both (operand_of (get_or items i Always)) =
     subst (λ (z : List Operand). operand_of c.for_joint.result ≡ with_sign both (operand_of (get_or z i Always)))
     c.deref-operand-items.ensures.value c.for_joint.ensures in
-    part_never (operands_of (c.args.before.now ++ c.args.after.now)) both items i short c.for_joint.result c.beside.result is
+    part_never (literal_operands (c.args.before.now ++ c.args.after.now)) both items i short c.for_joint.result c.beside.result is
     c.beside.ensures c.in-Never.is
 
 pub loop-operand-preserved : goal.loop-operand-preserved
@@ -29,13 +29,13 @@ loop-operand-preserved c =
     let items = c.args.gate.now.operands.items in
     let i = c.loop-operand.operand-index in
     let ls = c.loop-operand.left.items in
-    let others = operands_of (c.args.before.now ++ c.args.after.now) in
+    let others = literal_operands (c.args.before.now ++ c.args.after.now) in
     let short : i < length items = subst (λ (z : List Operand). i < length z) c.deref-operand-items.ensures.value c.loop-operand-test.true in
     let is : operand_of c.for_joint.result ≡ with_sign both (operand_of (get_or items i Always)) =
     subst (λ (z : List Operand). operand_of c.for_joint.result ≡ with_sign both (operand_of (get_or z i Always)))
     c.deref-operand-items.ensures.value c.for_joint.ensures in
     elim c.match-beside.branch [
-      | in-Always w ↦ subst (λ (z : List Literal). AreEnoughBeside others (map (with_sign both) (map operand_of (take (i + 1) items))) (operands_of z))
+      | in-Always w ↦ subst (λ (z : List Literal). AreEnoughBeside others (map (with_sign both) (map operand_of (take (i + 1) items))) (literal_operands z))
           (sym (ap (λ v. v.items) w.left-is))
           (part_passes others both items i short c.for_joint.result c.beside.result is c.beside.ensures ls c.loop-operand.invariant w.in-Always.is)
       | in-Event+in_ok-push-in-Event w ↦ part_kept others both items i short c.for_joint.result c.beside.result is c.beside.ensures

@@ -5,7 +5,7 @@ use Rattle.eq_core.specs.declared.joints.Operand.{Operand}
 use Rattle.eq_core.specs.declared.joints.Operand.TheVariants.{Always}
 use Rattle.gate_sharing.specs.declared.literals.Literal.{Literal}
 use Rattle.gate_sharing.specs.declared.literals.Literal.TheVariants as l
-use Rattle.gate_sharing.specs.Literals.{operands_of, AreEnough}
+use Rattle.gate_sharing.specs.Literals.{literal_operands, AreEnough}
 use Rattle.gate_sharing.specs.Images.{with_sign, image, needed_for}
 use Rattle.gate_sharing.proofs.Needing.{item_below, never_found, one_passed, one_kept}
 use Rattle.gate_sharing.proofs.tables.needed_literals.Goals as goal
@@ -40,7 +40,7 @@ loop-operand-preserved c =
     subst (λ (z : List Operand). operand_of c.for_joint.result ≡ with_sign both (image images (operand_of (get_or z i Always))))
     c.deref-operand-items.ensures.value (c.for_joint.ensures ∙ ap (with_sign both) c.image_of.ensures) in
     elim c.match-for_joint.branch [
-      | in-Always w ↦ subst (λ (z : List Literal). AreEnough (needed_for both images (map operand_of (take (i + 1) items))) (operands_of z))
+      | in-Always w ↦ subst (λ (z : List Literal). AreEnough (needed_for both images (map operand_of (take (i + 1) items))) (literal_operands z))
           (sym (ap (λ v. v.items) w.literals-is)) (one_passed both images items i short c.for_joint.result e ls c.loop-operand.invariant w.in-Always.is)
       | in-Event+in_ok-push-in-Event w ↦ one_kept both images items i short c.for_joint.result e ls c.loop-operand.invariant
           (l.Event w.in-Event.event.n w.in-Event.sign) c.match-for_joint.literals.items (ap operand_of w.in-Event.is)

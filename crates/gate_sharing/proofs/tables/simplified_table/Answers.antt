@@ -8,7 +8,7 @@ use Rattle.eq_core.specs.Values.{signed, joint_at, values_at, value_at}
 use Rattle.eq_core.specs.Views.{all_needed, gate_of, operand_of, table_of}
 use Rattle.eq_core.specs.declared.joints.Gate.{Gate}
 use Rattle.eq_core.specs.declared.joints.Operand.{Operand}
-use Rattle.gate_cones.specs.Marks.{AreMarks}
+use Rattle.gate_cones.specs.Marks.{AreConeMarks}
 use Rattle.gate_sharing.specs.Images.{image, needed_for, AreImages}
 use Rattle.gate_sharing.specs.Simplified.{HaveSameValues}
 use Rattle.gate_sharing.proofs.Imaging.{images_none, operands_below, needed_below, images_more, needed_marked, marked_needed, whole_ordered, whole_same}
@@ -48,10 +48,10 @@ next_image-requires-clause-below c = λ marked.
     let stands : Stands gates n gate = subst (λ (g : Gate). Stands gates n g) is (stands_get gates n gate short) in
     let images = c.loop-number.images.items in
     let long : length (map operand_of images) ≡ n = length-map images operand_of ∙ c.loop-number.invariant.long in
-    let conflict : AreMarks table.gates table.conflict c.in_ok-conflict.conflict.items =
-    subst (λ (z : List Gate). AreMarks (map gate_of z) table.conflict c.in_ok-conflict.conflict.items) c.deref.ensures.value c.in_ok-conflict.ensures in
-    let top : AreMarks table.gates table.top c.in_ok-top.top.items =
-    subst (λ (z : List Gate). AreMarks (map gate_of z) table.top c.in_ok-top.top.items) c.deref-2.ensures.value c.in_ok-top.ensures in
+    let conflict : AreConeMarks table.gates table.conflict c.in_ok-conflict.conflict.items =
+    subst (λ (z : List Gate). AreConeMarks (map gate_of z) table.conflict c.in_ok-conflict.conflict.items) c.deref.ensures.value c.in_ok-conflict.ensures in
+    let top : AreConeMarks table.gates table.top c.in_ok-top.top.items =
+    subst (λ (z : List Gate). AreConeMarks (map gate_of z) table.top c.in_ok-top.top.items) c.deref-2.ensures.value c.in_ok-top.ensures in
     let both : (get_or c.in_ok-conflict.conflict.items n false || get_or c.in_ok-top.top.items n false) ≡ true =
     sym (ap₂ (λ (x y : List Bool). get_or x n false || get_or y n false) c.deref-in-loop-number.ensures.value c.deref-in-loop-number-2.ensures.value)
     ∙ sym c.is_marked-needed.ensures ∙ marked in
@@ -74,10 +74,10 @@ loop-number-preserved c =
     let stands : Stands gates n gate = subst (λ (g : Gate). Stands gates n g) is (stands_get gates n gate short) in
     let images = c.loop-number.images.items in
     let long : length (map operand_of images) ≡ n = length-map images operand_of ∙ c.loop-number.invariant.long in
-    let conflict : AreMarks table.gates table.conflict c.in_ok-conflict.conflict.items =
-    subst (λ (z : List Gate). AreMarks (map gate_of z) table.conflict c.in_ok-conflict.conflict.items) c.deref.ensures.value c.in_ok-conflict.ensures in
-    let top : AreMarks table.gates table.top c.in_ok-top.top.items =
-    subst (λ (z : List Gate). AreMarks (map gate_of z) table.top c.in_ok-top.top.items) c.deref-2.ensures.value c.in_ok-top.ensures in
+    let conflict : AreConeMarks table.gates table.conflict c.in_ok-conflict.conflict.items =
+    subst (λ (z : List Gate). AreConeMarks (map gate_of z) table.conflict c.in_ok-conflict.conflict.items) c.deref.ensures.value c.in_ok-conflict.ensures in
+    let top : AreConeMarks table.gates table.top c.in_ok-top.top.items =
+    subst (λ (z : List Gate). AreConeMarks (map gate_of z) table.top c.in_ok-top.top.items) c.deref-2.ensures.value c.in_ok-top.ensures in
     let inside : n < length table.gates = omega (arith, short, length-map gates gate_of) in
     let more : map operand_of c.push.new.self.items ≡ map operand_of images ++ operand_of c.in_ok-image.image ∷ [] =
     ap (map operand_of) c.in_ok-push.ensures.items ∙ map-append operand_of images (c.in_ok-image.image ∷ []) in

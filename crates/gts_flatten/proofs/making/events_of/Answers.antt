@@ -1,14 +1,14 @@
 use Rattle.std.proofs.Common.{◌≡◌, ℕ, ◌∙◌, refl, length, arith, ap, subst, length-append}
 use Rattle.sync_expand.proofs.Placed.{item_stands}
-use Rattle.gts_flatten.specs.Placing.{IsRun}
+use Rattle.gts_flatten.specs.Placing.{IsWayRun}
 use Rattle.gts_flatten.proofs.EventsMade.{run_ways, first_after, event_more}
 use Rattle.gts_flatten.proofs.making.events_of.Goals as goal
 
 pub loop-number-preserved : goal.loop-number-preserved
 loop-number-preserved c =
     let i = c.loop-number.invariant in
-    let run : IsRun c.args.plan.now c.loop-number.number c.loop-number.first c.in_ok-ways.ways.items =
-    subst (λ (n : ℕ). IsRun c.args.plan.now n c.loop-number.first c.in_ok-ways.ways.items) c.new.ensures
+    let run : IsWayRun c.args.plan.now c.loop-number.number c.loop-number.first c.in_ok-ways.ways.items =
+    subst (λ (n : ℕ). IsWayRun c.args.plan.now n c.loop-number.first c.in_ok-ways.ways.items) c.new.ensures
     c.in_ok-ways.ensures in
     let len : c.len-first.result ≡ length c.in_ok-ways.ways.items =
     omega (arith, c.in_ok-ways.ways.ok.0, c.len-first.ensures) in

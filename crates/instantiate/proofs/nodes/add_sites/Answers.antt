@@ -6,7 +6,7 @@ use Rattle.ar_base.proofs.Standing.{stands_get}
 use Rattle.class_table.specs.Members.{Site, NamedMember, named_at, names_of, owned_at}
 use Rattle.class_table.specs.TablesInside.{site_of}
 use Rattle.class_table.proofs.Taken.{map_next}
-use Rattle.instantiate.specs.Nodes.{test_of, nodes_of}
+use Rattle.instantiate.specs.Nodes.{test_of, nodes_of_members}
 use Rattle.instantiate.proofs.Noded.{grown, nodes_join}
 use Rattle.instantiate.proofs.nodes.add_sites.Goals as goal
 use Rattle.instantiate.proofs.nodes.add_sites.Goals.{in-Some+in_ok-add_member, in_default}
@@ -23,7 +23,7 @@ loop-site-preserved c = λ d holds known.
     let joined = nodes_join c.args.unit (test_of c.args.listed) (named_at d before) _ in
     let site = site_of (get_or c.args.sites.now c.loop-site.site-index none) in
     let added : c.match-owned_at.nodes.items
-    ≡ c.loop-site.nodes.items ++ nodes_of c.args.unit (test_of c.args.listed) (names_of d site (owned_at d site)) =
+    ≡ c.loop-site.nodes.items ++ nodes_of_members c.args.unit (test_of c.args.listed) (names_of d site (owned_at d site)) =
     elim c.match-owned_at.branch [
       | in-Some+in_ok-add_member w ↦
           (let o = rw c.deref.ensures.value at (w.in-Some.ensures d) in
@@ -33,6 +33,6 @@ loop-site-preserved c = λ d holds known.
           rw (← o holds.bodies, w.nodes-is) (sym (append-nil c.loop-site.nodes.items)))
     ] in
     grown _ _ _ _ _ _ (c.loop-site.invariant d holds known) added
-    (ap (λ (ss : List Site). nodes_of c.args.unit (test_of c.args.listed) (named_at d ss)) e
-    ∙ (ap (λ (gs : List NamedMember). nodes_of c.args.unit (test_of c.args.listed) gs)
+    (ap (λ (ss : List Site). nodes_of_members c.args.unit (test_of c.args.listed) (named_at d ss)) e
+    ∙ (ap (λ (gs : List NamedMember). nodes_of_members c.args.unit (test_of c.args.listed) gs)
     (f ∙ ap (λ (gs : List NamedMember). named_at d before ++ gs) (append-nil _)) ∙ joined))

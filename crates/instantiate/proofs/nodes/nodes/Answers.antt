@@ -11,7 +11,7 @@ use Rattle.class_table.proofs.Taken.{item_stands, take_next}
 use Rattle.hierarchy.specs.Units.{UnitPath, Thing, names_at}
 use Rattle.hierarchy.specs.Listing.{things_in}
 use Rattle.hierarchy.specs.declared.outline.Outline.{Outline}
-use Rattle.instantiate.specs.Nodes.{test_of, nodes_of, IsNodeSo}
+use Rattle.instantiate.specs.Nodes.{test_of, nodes_of_members, IsNodeSo}
 use Rattle.instantiate.proofs.OneName.{unit_nodes, members_there, members_past}
 use Rattle.instantiate.proofs.nodes.nodes.Goals as goal
 use Rattle.instantiate.proofs.nodes.nodes.Goals.{in-Some+in_ok-add_sites, in_default}
@@ -36,7 +36,7 @@ loop-place-preserved c = λ m units h known.
     let there = subst (λ (k : ℕ). Stands units k w.0) (sym n) w.1 in
     let body = (get_or c.args.outlines.now c.loop-place.place none).body.n in
     let grown : c.match-get.nodes.items
-    ≡ c.loop-place.nodes.items ++ nodes_of c.new-unit.result test (names_at m w.0) =
+    ≡ c.loop-place.nodes.items ++ nodes_of_members c.new-unit.result test (names_at m w.0) =
     elim c.match-get.branch [
       | in-Some+in_ok-add_sites v ↦
           (let l = rw c.deref.ensures.value at v.in-Some.ensures.lookup.3.0 in
@@ -46,13 +46,13 @@ loop-place-preserved c = λ m units h known.
           ∙ ap (λ (n : ℕ). unwrap_or (slice_get m.members n) []) w.2.body in
           let a = rw v.deref-in-Some.ensures.value at (v.in_ok-add_sites.ensures m.declared h.table.table.holds known) in
           rw v.nodes-is (subst (λ (ss : List Site). v.add_sites.new.nodes.items
-          ≡ c.loop-place.nodes.items ++ nodes_of c.new-unit.result test (named_at m.declared ss)) e a))
+          ≡ c.loop-place.nodes.items ++ nodes_of_members c.new-unit.result test (named_at m.declared ss)) e a))
       | in_default v ↦
           (let l = rw c.deref.ensures.value at v.in_default.ensures.lookup.3 in
           let e = ap (λ (n : ℕ). unwrap_or (slice_get m.members n) []) (sym w.2.body)
           ∙ members_past m c.args.classes.now h.table.table body l in
           rw v.nodes-is (sym (ap (λ (ss : List Site). c.loop-place.nodes.items
-          ++ nodes_of c.new-unit.result test (named_at m.declared ss)) e ∙ append-nil c.loop-place.nodes.items)))
+          ++ nodes_of_members c.new-unit.result test (named_at m.declared ss)) e ∙ append-nil c.loop-place.nodes.items)))
     ] in
     let things = ap (flat_map (things_in test m)) (take_next units c.loop-place.place w.0 w.1)
     ∙ (flat_map-append (things_in test m) (take c.loop-place.place units) (w.0 ∷ [])

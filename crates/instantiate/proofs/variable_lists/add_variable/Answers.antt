@@ -10,7 +10,7 @@ use Rattle.hierarchy.specs.TypeDomains.{HasDomain}
 use Rattle.hierarchy.specs.declared.tree.VarNode.{VarNode}
 use Rattle.hierarchy.proofs.Apart.{named_back}
 use Rattle.unit_rules.specs.Typing.{bounds_variables}
-use Rattle.instantiate.specs.Values.{declared_type, last_of}
+use Rattle.instantiate.specs.Values.{declared_type, last_target_word}
 use Rattle.class_table.proofs.MemberNames.{none_of}
 use Rattle.instantiate.proofs.Domained.{domain_is, domain_there}
 use Rattle.instantiate.proofs.InForce.{node_site, no_some, variable_at, target_one, declared_one}
@@ -65,10 +65,10 @@ returns c = λ m units t h known tells kept so.
     ∙ ap (λ (ws : List Word). ws ++ c.last_word.result ∷ [])
     (c.in_ok-push.ensures.items ∙ ap (λ (ws : List Word). ws ++ word.Name c.args.node.name ∷ [])
     c.new-target.ensures.items) in
-    let last = sym (c.last_word.ensures ∙ ap last_of state) in
+    let last = sym (c.last_word.ensures ∙ ap last_target_word state) in
     let target : target_in g.name g.kind ≡ Some (map target_word_of c.push-2.new.self.items) =
     ap (λ (k : MemberKind). target_in g.name k) v.kind ∙ (target_one g.name v.type v.settings _ v.one
-    ∙ (ap (λ (n : ℕ). Some (Named n ∷ (last_of (is_state v.settings) ∷ []))) name
+    ∙ (ap (λ (n : ℕ). Some (Named n ∷ (last_target_word (is_state v.settings) ∷ []))) name
     ∙ (ap (λ (w : TargetWord). Some (Named c.args.node.name.n ∷ (w ∷ []))) last
     ∙ ap (λ (ws : List Word). Some (map target_word_of ws)) (sym words)))) in
     let added : VarNode = record {

@@ -1,8 +1,8 @@
 use Rattle.std.proofs.Common.{◌∷◌, [], ◌++◌, map, refl, sym, subst}
 use Rattle.std.proofs.lemmas.Result.{err_from_is_err_and}
-use Rattle.job_inputs.specs.Flat.{command_of, IsFirable}
-use Rattle.text_pieces.specs.WayLabels.{label_of}
-use Rattle.job_inputs.specs.Reads.{Adds}
+use Rattle.job_inputs.specs.Flat.{command_of, IsWayOfSystem}
+use Rattle.text_pieces.specs.WayLabels.{numbered_label}
+use Rattle.job_inputs.specs.Reads.{AddsCommands}
 use Rattle.job_inputs.specs.Scripts.{no_command}
 use Rattle.job_inputs.specs.declared.commands.Command.{Command}
 use Rattle.job_inputs.proofs.ScriptLemmas.{adds_nothing, adds_fire, adds_back, adds_show, adds_list, one_added, firable_more, label_bad, line_passed}
@@ -31,15 +31,15 @@ returns-clause-added c = λ x of.
     (elim c.match-line_of.branch [
       | in-Fires+in_ok-way_named-in-Fires w ↦ (
           let a = w.in_ok-way_named-in-Fires.ensures x of in
-          subst (λ (z : Command). Adds x line (map (command_of p) old) (map (command_of p) old ++ command_of p z ∷ []))
+          subst (λ (z : Command). AddsCommands x line (map (command_of p) old) (map (command_of p) old ++ command_of p z ∷ []))
           (sym w.command-is)
-          (adds_fire (map (command_of p) old) w.in-Fires.label.now (label_of p w.in_ok-way_named-in-Fires.field-0.n)
+          (adds_fire (map (command_of p) old) w.in-Fires.label.now (numbered_label p w.in_ok-way_named-in-Fires.field-0.n)
           w.in-Fires.ensures a.0 a.2))
-      | in-GoesBack w ↦ subst (λ (z : Command). Adds x line (map (command_of p) old)
+      | in-GoesBack w ↦ subst (λ (z : Command). AddsCommands x line (map (command_of p) old)
           (map (command_of p) old ++ command_of p z ∷ [])) (sym w.command-is) (adds_back _ w.in-GoesBack.ensures)
-      | in-Shows w ↦ subst (λ (z : Command). Adds x line (map (command_of p) old)
+      | in-Shows w ↦ subst (λ (z : Command). AddsCommands x line (map (command_of p) old)
           (map (command_of p) old ++ command_of p z ∷ [])) (sym w.command-is) (adds_show _ w.in-Shows.ensures)
-      | in-ListsEnabled w ↦ subst (λ (z : Command). Adds x line (map (command_of p) old)
+      | in-ListsEnabled w ↦ subst (λ (z : Command). AddsCommands x line (map (command_of p) old)
           (map (command_of p) old ++ command_of p z ∷ [])) (sym w.command-is) (adds_list _ w.in-ListsEnabled.ensures)
     ])
 
@@ -50,8 +50,8 @@ returns-clause-firable c = λ x of h.
     (elim c.match-line_of.branch [
       | in-Fires+in_ok-way_named-in-Fires w ↦ (
           let a = w.in_ok-way_named-in-Fires.ensures x of in
-          subst (λ (z : Command). IsFirable p z) (sym w.command-is) a.1)
-      | in-GoesBack w ↦ subst (λ (z : Command). IsFirable p z) (sym w.command-is) tt
-      | in-Shows w ↦ subst (λ (z : Command). IsFirable p z) (sym w.command-is) tt
-      | in-ListsEnabled w ↦ subst (λ (z : Command). IsFirable p z) (sym w.command-is) tt
+          subst (λ (z : Command). IsWayOfSystem p z) (sym w.command-is) a.1)
+      | in-GoesBack w ↦ subst (λ (z : Command). IsWayOfSystem p z) (sym w.command-is) tt
+      | in-Shows w ↦ subst (λ (z : Command). IsWayOfSystem p z) (sym w.command-is) tt
+      | in-ListsEnabled w ↦ subst (λ (z : Command). IsWayOfSystem p z) (sym w.command-is) tt
     ]) h

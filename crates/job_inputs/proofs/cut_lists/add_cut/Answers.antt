@@ -1,7 +1,7 @@
 use Rattle.std.proofs.Common.{map, refl}
 use Rattle.std.proofs.lemmas.Result.{err_from_is_err_and}
 use Rattle.job_inputs.specs.CutLines.{texts_in}
-use Rattle.job_inputs.specs.Chains.{cut_of, labels_of}
+use Rattle.job_inputs.specs.Chains.{cut_of, chain_labels}
 use Rattle.job_inputs.specs.CutLists.{no_cut}
 use Rattle.job_inputs.proofs.CutLineLemmas.{one_cut}
 use Rattle.job_inputs.proofs.CutListLemmas.{adds_nothing, adds_cut, labels_bad, one_added, chains_more, line_passed}
@@ -28,7 +28,7 @@ returns-clause-added c = λ x of.
     let a = c.in_ok-ways.ensures x of in
     one_added p x line c.args.number old c.push.new.self.items
     (record { line = c.args.number; ways = c.in_ok-ways.ways }) c.in_ok-push.ensures.items
-    (adds_cut (map (cut_of p) old) (texts_in c.in-Labels.inner.now) (labels_of p c.in_ok-ways.ways.items)
+    (adds_cut (map (cut_of p) old) (texts_in c.in-Labels.inner.now) (chain_labels p c.in_ok-ways.ways.items)
     c.in-Labels.ensures.0 c.in-Labels.ensures.1 a.0
     (λ others d. one_cut line (texts_in c.in-Labels.inner.now) others c.in-Labels.ensures.1 d) a.2)
 

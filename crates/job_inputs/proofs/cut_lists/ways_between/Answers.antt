@@ -1,7 +1,7 @@
 use Rattle.std.proofs.Common.{◌∷◌, List, map, ap, sym, ◌∙◌}
 use Rattle.std.proofs.lemmas.Result.{err_from_is_err_and}
 use Rattle.job_inputs.specs.CutLines.{trimmed}
-use Rattle.job_inputs.specs.Chains.{labels_of}
+use Rattle.job_inputs.specs.Chains.{chain_labels}
 use Rattle.job_inputs.specs.CutReads.{commas_left}
 use Rattle.job_inputs.proofs.CutLineLemmas.{comma_first}
 use Rattle.job_inputs.proofs.CutListLemmas.{reached_none, reached_more, label_fails, known_none, known_more, labels_more, labels_as}
@@ -9,7 +9,7 @@ use Rattle.job_inputs.proofs.cut_lists.ways_between.Goals as goal
 
 pub loop-rest-init : goal.loop-rest-init
 loop-rest-init c = record {
-  reached = λ x of. reached_none _ _ (ap (labels_of c.args.gts.now) c.new-ways.ensures.items);
+  reached = λ x of. reached_none _ _ (ap (chain_labels c.args.gts.now) c.new-ways.ensures.items);
   known = λ x of. known_none c.args.gts.now _ c.new-ways.ensures.items;
 }
 

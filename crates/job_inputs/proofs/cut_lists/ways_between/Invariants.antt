@@ -1,8 +1,8 @@
 use Rattle.std.proofs.Common.{map}
 use Rattle.gts_flatten.specs.Elaborating.{Elaborated}
 use Rattle.job_inputs.specs.CutLines.{is_comma, trimmed}
-use Rattle.job_inputs.specs.Chains.{labels_of}
-use Rattle.job_inputs.specs.CutReads.{AreKnownWays, AreReached, commas_left}
+use Rattle.job_inputs.specs.Chains.{chain_labels}
+use Rattle.job_inputs.specs.CutReads.{AreKnownWays, AreLabelsSoFar, commas_left}
 use Rattle.job_inputs.specs.Flat.{IsOfTree}
 use Rattle.job_inputs.specs.Lines.{pieces}
 use Rattle.job_inputs.specs.Reads.{bytes_left}
@@ -12,8 +12,8 @@ use Rattle.job_inputs.proofs.cut_lists.ways_between.Given as goal
 abbrev pub invariant-loop-rest : goal.invariant-loop-rest
 invariant-loop-rest l = record {
   reached : (x : Elaborated) → IsOfTree x l.tree l.gts
-      → AreReached x (map trimmed (pieces is_comma l.inner)) (map trimmed (commas_left l.rest))
-      (labels_of l.gts l.ways.items);
+      → AreLabelsSoFar x (map trimmed (pieces is_comma l.inner)) (map trimmed (commas_left l.rest))
+      (chain_labels l.gts l.ways.items);
   known : (x : Elaborated) → IsOfTree x l.tree l.gts → AreKnownWays l.gts l.ways.items;
 }
 

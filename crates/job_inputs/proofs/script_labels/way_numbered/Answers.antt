@@ -1,7 +1,7 @@
 use Rattle.std.proofs.Common.{Option, subst}
 use Rattle.ar_base.specs.NumbersInside.{EventId}
 use Rattle.gts_core.specs.declared.system.GtsParts.{GtsParts}
-use Rattle.job_inputs.specs.Reads.{AnswersVisible, IsWayOf, IsNoWayOf}
+use Rattle.job_inputs.specs.Reads.{AnswersVisible, IsNumberedWay, IsNoWayOf}
 use Rattle.job_inputs.proofs.VisibleLemmas.{numbered_way, no_mark_label, no_path_label, no_way_label}
 use Rattle.job_inputs.proofs.script_labels.way_numbered.Goals as goal
 
@@ -22,7 +22,7 @@ returns-in-Some-way_at c = λ x of nothing.
     c.in-Some-way_at.way c.args.line c.in-Some.ensures.found nothing
     (subst (λ (o : Option EventId). AnswersVisible x c.args.gts.now c.in-Some.path.now o) c.in-Some-2.is
     (c.in_ok-event.ensures x of))
-    (subst (λ (p : GtsParts). IsWayOf p c.in-Some-2.event c.in-Some.digits.now c.in-Some-way_at.way)
+    (subst (λ (p : GtsParts). IsNumberedWay p c.in-Some-2.event c.in-Some.digits.now c.in-Some-way_at.way)
     c.parts.ensures.parts c.in-Some-way_at.ensures)
 
 pub returns-in-None : goal.returns-in-None

@@ -5,7 +5,7 @@ use Rattle.eq_core.specs.Views.{table_of}
 use Rattle.gate_diagrams.specs.declared.answer.Drawn.TheVariants.{Cuts}
 use Rattle.table_laws.specs.Drawn.{sets_of}
 use Rattle.cut_text.specs.Answers.{Prints}
-use Rattle.cut_text.specs.Printed.{edges_of, cuts_text}
+use Rattle.cut_text.specs.Printed.{forest_edges, cuts_text}
 use Rattle.job_stages.specs.Tells.{Tells}
 use Rattle.job_stages.specs.declared.status.Status.TheVariants.{Done}
 use Rattle.job_stages.proofs.CutLemmas.{agrees, both, counted_text, own_forest, forest_is, table, observed, source_observer, renamed, are_drawn, few_counted, cuts_told, none_printed, printed_partly, printed_whole}
@@ -85,10 +85,10 @@ returns-in_err-print_cuts g c = λ asked w drawn e one.
     trees forest o (observed w p trees gates is) q v _ _ a w.order d.0 sets listed set one ls line)
     few in
     let h = counted_text (g.K.Sink.state c.args.out.now) (g.K.Sink.state c.print_cuts.new.out) p
-    (edges_of trees.trees.items) w.order c.in_ok-lister.lister _ _ c.in_ok-counted.ensures.sets
+    (forest_edges trees.trees.items) w.order c.in_ok-lister.lister _ _ c.in_ok-counted.ensures.sets
     (Err c.in_err-print_cuts.field-0.0)
     (subst (λ (k : Option ℕ). Prints (g.K.Sink.state c.args.out.now) (g.K.Sink.state c.print_cuts.new.out)
-    (cuts_text p (edges_of trees.trees.items) k c.in_ok-lister.lister c.in_ok-counted.counted.sets)
+    (cuts_text p (forest_edges trees.trees.items) k c.in_ok-lister.lister c.in_ok-counted.counted.sets)
     (Err c.in_err-print_cuts.field-0.0)) (sym one) c.in_err-print_cuts.ensures) in
     printed_partly (Tells asked w) _ Done t _ h _ _ r.1 r.2
 
@@ -118,8 +118,8 @@ returns g c = λ asked w drawn e one.
     trees forest o (observed w p trees gates is) q v _ _ a w.order d.0 sets listed set one ls line)
     few in
     let h = counted_text (g.K.Sink.state c.args.out.now) (g.K.Sink.state c.print_cuts.new.out) p
-    (edges_of trees.trees.items) w.order c.in_ok-lister.lister _ _ c.in_ok-counted.ensures.sets (Ok tt)
+    (forest_edges trees.trees.items) w.order c.in_ok-lister.lister _ _ c.in_ok-counted.ensures.sets (Ok tt)
     (subst (λ (k : Option ℕ). Prints (g.K.Sink.state c.args.out.now) (g.K.Sink.state c.print_cuts.new.out)
-    (cuts_text p (edges_of trees.trees.items) k c.in_ok-lister.lister c.in_ok-counted.counted.sets) (Ok tt))
+    (cuts_text p (forest_edges trees.trees.items) k c.in_ok-lister.lister c.in_ok-counted.counted.sets) (Ok tt))
     (sym one) c.in_ok-print_cuts.ensures) in
     printed_whole (Tells asked w) _ Done t tt h

@@ -2,7 +2,7 @@ use Rattle.std.proofs.Common.{◌&&◌, ◌≤◌, None, sym, ap, ◌∙◌, sub
 use Rattle.zdd_nodes.specs.Nodes.{Stored, family, IsSoundStore}
 use Rattle.diagram_steps.proofs.Growing.{extends_by}
 use Rattle.least_families.specs.declared.memo.Operation.TheVariants.{Product}
-use Rattle.least_families.specs.Halves.{AreHalves}
+use Rattle.least_families.specs.Halves.{AreLeastHalves}
 use Rattle.least_families.specs.Least.{covers}
 use Rattle.least_families.specs.Kept.{IsLeastOf}
 use Rattle.least_families.proofs.Held.{keeps_none, keeps_then, keeps_by, keeps_more, handed}
@@ -35,7 +35,7 @@ returns-in-Some-clause-least t c =
 pub product_least-requires : goal.product_least-requires
 product_least-requires t c =
     let s = c.args.ops.now in
-    let cut = (subst (λ (z : Stored). AreHalves z.families c.args.f.n c.args.g.n c.halves_of-halves.result) c.store.ensures.same c.halves_of-halves.ensures) in (
+    let cut = (subst (λ (z : Stored). AreLeastHalves z.families c.args.f.n c.args.g.n c.halves_of-halves.result) c.store.ensures.same c.halves_of-halves.ensures) in (
       falls _ _ t cut.less00 c.decreases,
       (
         f0_operand s c.args.f.n c.args.g.n c.halves_of-halves.result cut c.requires.first,
@@ -46,7 +46,7 @@ product_least-requires t c =
 pub product_least-requires-2 : goal.product_least-requires-2
 product_least-requires-2 t c =
     let s = c.args.ops.now in
-    let cut = (subst (λ (z : Stored). AreHalves z.families c.args.f.n c.args.g.n c.halves_of-halves.result) c.store.ensures.same c.halves_of-halves.ensures) in (
+    let cut = (subst (λ (z : Stored). AreLeastHalves z.families c.args.f.n c.args.g.n c.halves_of-halves.result) c.store.ensures.same c.halves_of-halves.ensures) in (
       falls _ _ t cut.less11 c.decreases,
       (
         operand_kept s c.product_least.new.ops c.halves_of-halves.result.f1.n c.in_ok-lo.ensures.kept.grows (f1_operand s c.args.f.n c.args.g.n c.halves_of-halves.result cut c.requires.first),
@@ -57,7 +57,7 @@ product_least-requires-2 t c =
 pub product_least-requires-3 : goal.product_least-requires-3
 product_least-requires-3 t c =
     let s = c.args.ops.now in
-    let cut = (subst (λ (z : Stored). AreHalves z.families c.args.f.n c.args.g.n c.halves_of-halves.result) c.store.ensures.same c.halves_of-halves.ensures) in (
+    let cut = (subst (λ (z : Stored). AreLeastHalves z.families c.args.f.n c.args.g.n c.halves_of-halves.result) c.store.ensures.same c.halves_of-halves.ensures) in (
       falls _ _ t cut.less10 c.decreases,
       (
         operand_kept s c.product_least-2.new.ops c.halves_of-halves.result.f1.n ((keeps_then s c.product_least.new.ops c.product_least-2.new.ops c.product_least.new.memo c.product_least-2.new.memo c.in_ok-lo.ensures.kept c.in_ok-both.ensures.kept)).grows (f1_operand s c.args.f.n c.args.g.n c.halves_of-halves.result cut c.requires.first),
@@ -68,7 +68,7 @@ product_least-requires-3 t c =
 pub product_least-requires-4 : goal.product_least-requires-4
 product_least-requires-4 t c =
     let s = c.args.ops.now in
-    let cut = (subst (λ (z : Stored). AreHalves z.families c.args.f.n c.args.g.n c.halves_of-halves.result) c.store.ensures.same c.halves_of-halves.ensures) in (
+    let cut = (subst (λ (z : Stored). AreLeastHalves z.families c.args.f.n c.args.g.n c.halves_of-halves.result) c.store.ensures.same c.halves_of-halves.ensures) in (
       falls _ _ t cut.less01 c.decreases,
       (
         operand_kept s c.product_least-3.new.ops c.halves_of-halves.result.f0.n ((keeps_then s c.product_least-2.new.ops c.product_least-3.new.ops c.product_least-2.new.memo c.product_least-3.new.memo (keeps_then s c.product_least.new.ops c.product_least-2.new.ops c.product_least.new.memo c.product_least-2.new.memo c.in_ok-lo.ensures.kept c.in_ok-both.ensures.kept) c.in_ok-first.ensures.kept)).grows (f0_operand s c.args.f.n c.args.g.n c.halves_of-halves.result cut c.requires.first),
@@ -127,13 +127,13 @@ returns-in_err-hi-clause-kept t c =
 pub node-requires-clause-lo_above : goal.node-requires-clause-lo_above
 node-requires-clause-lo_above t c =
     let s = c.args.ops.now in
-    let cut = (subst (λ (z : Stored). AreHalves z.families c.args.f.n c.args.g.n c.halves_of-halves.result) c.store.ensures.same c.halves_of-halves.ensures) in
+    let cut = (subst (λ (z : Stored). AreLeastHalves z.families c.args.f.n c.args.g.n c.halves_of-halves.result) c.store.ensures.same c.halves_of-halves.ensures) in
     product_lo_above c.args.order c.one_fewer-fewer.result c.one_fewer-fewer.ensures s c.product_least.new.ops c.product_least-2.new.ops c.product_least-3.new.ops c.product_least-4.new.ops c.union_least.new.ops c.union_least-2.new.ops c.args.f.n c.args.g.n c.halves_of-halves.result cut c.in_ok-lo.lo.n c.in_ok-both.both.n c.in_ok-first.first.n c.in_ok-second.second.n c.in_ok-either.either.n c.in_ok-upper.upper.n c.in_ok-lo.ensures.kept.grows c.in_ok-both.ensures.kept.grows c.in_ok-first.ensures.kept.grows c.in_ok-second.ensures.kept.grows c.in_ok-either.ensures.kept.grows c.in_ok-upper.ensures.kept.grows c.in_ok-lo.ensures.least c.in_ok-both.ensures.least c.in_ok-first.ensures.least c.in_ok-second.ensures.least c.in_ok-either.ensures.least c.in_ok-upper.ensures.least (c.is_spent.ensures.no c.if-is_spent.false) c.without.new.self c.in_ok-hi.hi.n (extends_by _ c.union_least-2.new.ops c.without.new.self c.in_ok-hi.ensures.drawn.grows) c.in_ok-hi.ensures.drawn.ok.1
 
 pub node-requires-clause-hi_above : goal.node-requires-clause-hi_above
 node-requires-clause-hi_above t c =
     let s = c.args.ops.now in
-    let cut = (subst (λ (z : Stored). AreHalves z.families c.args.f.n c.args.g.n c.halves_of-halves.result) c.store.ensures.same c.halves_of-halves.ensures) in
+    let cut = (subst (λ (z : Stored). AreLeastHalves z.families c.args.f.n c.args.g.n c.halves_of-halves.result) c.store.ensures.same c.halves_of-halves.ensures) in
     product_hi_above c.args.order c.one_fewer-fewer.result c.one_fewer-fewer.ensures s c.product_least.new.ops c.product_least-2.new.ops c.product_least-3.new.ops c.product_least-4.new.ops c.union_least.new.ops c.union_least-2.new.ops c.args.f.n c.args.g.n c.halves_of-halves.result cut c.in_ok-lo.lo.n c.in_ok-both.both.n c.in_ok-first.first.n c.in_ok-second.second.n c.in_ok-either.either.n c.in_ok-upper.upper.n c.in_ok-lo.ensures.kept.grows c.in_ok-both.ensures.kept.grows c.in_ok-first.ensures.kept.grows c.in_ok-second.ensures.kept.grows c.in_ok-either.ensures.kept.grows c.in_ok-upper.ensures.kept.grows c.in_ok-lo.ensures.least c.in_ok-both.ensures.least c.in_ok-first.ensures.least c.in_ok-second.ensures.least c.in_ok-either.ensures.least c.in_ok-upper.ensures.least (c.is_spent.ensures.no c.if-is_spent.false) c.without.new.self c.in_ok-hi.hi.n (extends_by _ c.union_least-2.new.ops c.without.new.self c.in_ok-hi.ensures.drawn.grows) c.in_ok-hi.ensures.drawn.ok.1
 
 pub returns-in_err-made-clause-kept : goal.returns-in_err-made-clause-kept
@@ -147,7 +147,7 @@ pub returns-clause-kept : goal.returns-clause-kept
 returns-clause-kept t c =
     let s = c.args.ops.now in
     let z = c.node.new.self in
-    let cut = (subst (λ (z : Stored). AreHalves z.families c.args.f.n c.args.g.n c.halves_of-halves.result) c.store.ensures.same c.halves_of-halves.ensures) in
+    let cut = (subst (λ (z : Stored). AreLeastHalves z.families c.args.f.n c.args.g.n c.halves_of-halves.result) c.store.ensures.same c.halves_of-halves.ensures) in
     let kept = keeps_by _ s c.without.new.self z c.union_least-2.new.memo
     (keeps_by _ s c.union_least-2.new.ops c.without.new.self c.union_least-2.new.memo (keeps_then s c.union_least.new.ops c.union_least-2.new.ops c.union_least.new.memo c.union_least-2.new.memo (keeps_then s c.product_least-4.new.ops c.union_least.new.ops c.product_least-4.new.memo c.union_least.new.memo (keeps_then s c.product_least-3.new.ops c.product_least-4.new.ops c.product_least-3.new.memo c.product_least-4.new.memo (keeps_then s c.product_least-2.new.ops c.product_least-3.new.ops c.product_least-2.new.memo c.product_least-3.new.memo (keeps_then s c.product_least.new.ops c.product_least-2.new.ops c.product_least.new.memo c.product_least-2.new.memo c.in_ok-lo.ensures.kept c.in_ok-both.ensures.kept) c.in_ok-first.ensures.kept) c.in_ok-second.ensures.kept) c.in_ok-either.ensures.kept) c.in_ok-upper.ensures.kept) c.in_ok-hi.ensures.drawn.grows)
     c.in_ok-made.ensures.drawn.grows in
@@ -160,7 +160,7 @@ pub returns-clause-least : goal.returns-clause-least
 returns-clause-least t c =
     let s = c.args.ops.now in
     let z = c.node.new.self in
-    let cut = (subst (λ (z : Stored). AreHalves z.families c.args.f.n c.args.g.n c.halves_of-halves.result) c.store.ensures.same c.halves_of-halves.ensures) in
+    let cut = (subst (λ (z : Stored). AreLeastHalves z.families c.args.f.n c.args.g.n c.halves_of-halves.result) c.store.ensures.same c.halves_of-halves.ensures) in
     let made = product_made c.args.order c.one_fewer-fewer.result c.one_fewer-fewer.ensures s c.product_least.new.ops c.product_least-2.new.ops c.product_least-3.new.ops c.product_least-4.new.ops c.union_least.new.ops c.union_least-2.new.ops c.args.f.n c.args.g.n c.halves_of-halves.result cut c.in_ok-lo.lo.n c.in_ok-both.both.n c.in_ok-first.first.n c.in_ok-second.second.n c.in_ok-either.either.n c.in_ok-upper.upper.n c.in_ok-lo.ensures.kept.grows c.in_ok-both.ensures.kept.grows c.in_ok-first.ensures.kept.grows c.in_ok-second.ensures.kept.grows c.in_ok-either.ensures.kept.grows c.in_ok-upper.ensures.kept.grows c.in_ok-lo.ensures.least c.in_ok-both.ensures.least c.in_ok-first.ensures.least c.in_ok-second.ensures.least c.in_ok-either.ensures.least c.in_ok-upper.ensures.least (c.is_spent.ensures.no c.if-is_spent.false) c.without.new.self c.in_ok-hi.hi.n (extends_by _ c.union_least-2.new.ops c.without.new.self c.in_ok-hi.ensures.drawn.grows) c.in_ok-hi.ensures.drawn.ok.1 z c.in_ok-made.made.n c.in_ok-made.ensures.drawn.ok.0 c.in_ok-made.ensures.drawn.ok.1 in
     handed c.args.order (λ x. covers (family s c.args.f.n) x && covers (family s c.args.g.n) x) z c.in_ok-made.made
     c.remember.result made c.remember.ensures.number

@@ -1,7 +1,7 @@
 use Rattle.std.proofs.Common.{◌||◌, None, sym, ap, ◌∙◌, subst}
 use Rattle.zdd_nodes.specs.Nodes.{Stored}
 use Rattle.least_families.specs.declared.memo.Operation.TheVariants.{Union}
-use Rattle.least_families.specs.Halves.{AreHalves}
+use Rattle.least_families.specs.Halves.{AreLeastHalves}
 use Rattle.zdd_nodes.specs.Nodes.{family}
 use Rattle.diagram_steps.proofs.Growing.{extends_by}
 use Rattle.least_families.specs.Least.{covers}
@@ -27,7 +27,7 @@ returns-in-Some-recall-clause-least t c =
 
 pub union_least-requires : goal.union_least-requires
 union_least-requires t c =
-    let cut = (subst (λ (z : Stored). AreHalves z.families c.args.f.n c.args.g.n c.halves_of-halves.result) c.store.ensures.same c.halves_of-halves.ensures) in (
+    let cut = (subst (λ (z : Stored). AreLeastHalves z.families c.args.f.n c.args.g.n c.halves_of-halves.result) c.store.ensures.same c.halves_of-halves.ensures) in (
       falls _ _ t cut.less00 c.decreases,
       (
         f0_operand c.args.ops.now c.args.f.n c.args.g.n c.halves_of-halves.result cut c.requires.first,
@@ -41,7 +41,7 @@ union_least-requires t c =
 pub union_least-requires-2 : goal.union_least-requires-2
 union_least-requires-2 t c =
     let s = c.args.ops.now in
-    let cut = (subst (λ (z : Stored). AreHalves z.families c.args.f.n c.args.g.n c.halves_of-halves.result) c.store.ensures.same c.halves_of-halves.ensures) in
+    let cut = (subst (λ (z : Stored). AreLeastHalves z.families c.args.f.n c.args.g.n c.halves_of-halves.result) c.store.ensures.same c.halves_of-halves.ensures) in
     let grows = c.in_ok-lo.ensures.kept.grows in (
       falls _ _ t cut.less11 c.decreases,
       (
@@ -68,7 +68,7 @@ returns-in_err-hi-clause-kept t c =
 
 pub node-requires-clause-lo_above : goal.node-requires-clause-lo_above
 node-requires-clause-lo_above t c =
-    let cut = (subst (λ (z : Stored). AreHalves z.families c.args.f.n c.args.g.n c.halves_of-halves.result) c.store.ensures.same c.halves_of-halves.ensures) in
+    let cut = (subst (λ (z : Stored). AreLeastHalves z.families c.args.f.n c.args.g.n c.halves_of-halves.result) c.store.ensures.same c.halves_of-halves.ensures) in
     union_lo_above c.args.ops.now c.union_least.new.ops c.union_least-2.new.ops c.without.new.self c.args.f.n c.args.g.n
     c.halves_of-halves.result cut c.in_ok-lo.lo.n c.in_ok-with.with.n c.in_ok-hi.hi.n c.in_ok-lo.ensures.kept.grows
     c.in_ok-with.ensures.kept.grows
@@ -77,7 +77,7 @@ node-requires-clause-lo_above t c =
 
 pub node-requires-clause-hi_above : goal.node-requires-clause-hi_above
 node-requires-clause-hi_above t c =
-    let cut = (subst (λ (z : Stored). AreHalves z.families c.args.f.n c.args.g.n c.halves_of-halves.result) c.store.ensures.same c.halves_of-halves.ensures) in
+    let cut = (subst (λ (z : Stored). AreLeastHalves z.families c.args.f.n c.args.g.n c.halves_of-halves.result) c.store.ensures.same c.halves_of-halves.ensures) in
     union_hi_above c.args.ops.now c.union_least.new.ops c.union_least-2.new.ops c.without.new.self c.args.f.n c.args.g.n
     c.halves_of-halves.result cut c.in_ok-lo.lo.n c.in_ok-with.with.n c.in_ok-hi.hi.n c.in_ok-lo.ensures.kept.grows
     c.in_ok-with.ensures.kept.grows
@@ -95,7 +95,7 @@ pub returns-clause-kept : goal.returns-clause-kept
 returns-clause-kept t c =
     let s = c.args.ops.now in
     let z = c.node.new.self in
-    let cut = (subst (λ (z : Stored). AreHalves z.families c.args.f.n c.args.g.n c.halves_of-halves.result) c.store.ensures.same c.halves_of-halves.ensures) in
+    let cut = (subst (λ (z : Stored). AreLeastHalves z.families c.args.f.n c.args.g.n c.halves_of-halves.result) c.store.ensures.same c.halves_of-halves.ensures) in
     let kept = keeps_by _ s c.without.new.self z c.union_least-2.new.memo
     (keeps_by _ s c.union_least-2.new.ops c.without.new.self c.union_least-2.new.memo
     (keeps_then s c.union_least.new.ops c.union_least-2.new.ops c.union_least.new.memo
@@ -114,7 +114,7 @@ pub returns-clause-least : goal.returns-clause-least
 returns-clause-least t c =
     let s = c.args.ops.now in
     let z = c.node.new.self in
-    let cut = (subst (λ (z : Stored). AreHalves z.families c.args.f.n c.args.g.n c.halves_of-halves.result) c.store.ensures.same c.halves_of-halves.ensures) in
+    let cut = (subst (λ (z : Stored). AreLeastHalves z.families c.args.f.n c.args.g.n c.halves_of-halves.result) c.store.ensures.same c.halves_of-halves.ensures) in
     let made = union_made s c.union_least.new.ops c.union_least-2.new.ops c.without.new.self c.args.f.n c.args.g.n
     c.halves_of-halves.result cut c.in_ok-lo.lo.n c.in_ok-with.with.n c.in_ok-hi.hi.n c.in_ok-lo.ensures.kept.grows
     c.in_ok-with.ensures.kept.grows

@@ -4,16 +4,16 @@ use Rattle.std.proofs.lemmas.Option.{get_or_from_slice_get}
 use Rattle.ar_base.specs.Lists.{Stands}
 use Rattle.ar_base.specs.NumbersInside.{EventId}
 use Rattle.ar_base.proofs.Standing.{stands_map_back, stands_within}
-use Rattle.min_cuts.specs.Kept.{numbers}
+use Rattle.min_cuts.specs.Kept.{numbers_of_set}
 use Rattle.min_cuts.proofs.orders.bound.Goals as goal
 
-number_at : (order : List EventId) (k e : ℕ) (d : EventId) → Stands (numbers order) k e → (get_or order k d).n ≡ e
+number_at : (order : List EventId) (k e : ℕ) (d : EventId) → Stands (numbers_of_set order) k e → (get_or order k d).n ≡ e
 number_at order k e d s =
     let b = stands_map_back (λ (x : EventId). x.n) order k e s in
     ap (λ (x : EventId). x.n) (get_or_from_slice_get order k b.0 d b.1) ∙ b.2
 
-bound_goes : (order : List EventId) (i b r : ℕ) (d : EventId) → ((k e : ℕ) → k < i → Stands (numbers order) k e → e < b)
-    → r ≡ max b ((get_or order i d).n + 1) → (k e : ℕ) → k < i + 1 → Stands (numbers order) k e → e < r
+bound_goes : (order : List EventId) (i b r : ℕ) (d : EventId) → ((k e : ℕ) → k < i → Stands (numbers_of_set order) k e → e < b)
+    → r ≡ max b ((get_or order i d).n + 1) → (k e : ℕ) → k < i + 1 → Stands (numbers_of_set order) k e → e < r
 bound_goes order i b r d h m k e l s = by (number_at order k e d s) (λ l. h k e l s)
   where
     last : (n : ℕ) → n ≡ e → r ≡ max b (n + 1) → e < r
@@ -39,7 +39,7 @@ pub returns : goal.returns
 returns c = λ k e s. c.loop-event.invariant k e
     (omega (
       arith,
-      stands_within (numbers c.args.order.now) k e s,
+      stands_within (numbers_of_set c.args.order.now) k e s,
       length-map c.args.order.now
           (λ (x : EventId). x.n),
       c.loop-event-test.false,

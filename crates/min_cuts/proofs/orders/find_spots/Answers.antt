@@ -1,12 +1,12 @@
 use Rattle.std.proofs.Common.{◌≡◌, ℕ, List, [], ◌∷◌, map, get_or, refl, ap, ◌∙◌, subst, take_all}
 use Rattle.std.specs.List.Sorted.{IsPermutation}
 use Rattle.ar_base.proofs.Standing.{stands_map, stands_get}
-use Rattle.min_cuts.specs.Kept.{taken}
+use Rattle.min_cuts.specs.Kept.{taken_events}
 use Rattle.min_cuts.specs.declared.steps.Step.{Step}
 use Rattle.min_cuts.proofs.orders.find_spots.Goals as goal
 
 two_maps : (places : List ℕ) (steps : List Step)
-    → map (λ (x : Step). get_or places x.event.n 0) steps ≡ map (λ e. get_or places e 0) (taken steps)
+    → map (λ (x : Step). get_or places x.event.n 0) steps ≡ map (λ e. get_or places e 0) (taken_events steps)
 two_maps places [] = refl
 two_maps places (x ∷ steps) = ap (λ z. get_or places x.event.n 0 ∷ z) (two_maps places steps)
 

@@ -2,7 +2,7 @@ use Rattle.std.proofs.Common.{arith}
 use Rattle.std.proofs.lemmas.List.{length-map}
 use Rattle.ar_base.specs.NumbersInside.{EventId}
 use Rattle.ar_base.proofs.Standing.{stands_within}
-use Rattle.min_cuts.specs.Kept.{numbers}
+use Rattle.min_cuts.specs.Kept.{numbers_of_set}
 use Rattle.min_cuts.proofs.Placing.{event_stands, placed_more}
 use Rattle.min_cuts.proofs.orders.places_of.Goals as goal
 
@@ -25,7 +25,7 @@ index_mut-requires c =
 pub loop-place-preserved : goal.loop-place-preserved
 loop-place-preserved c =
     let d : EventId = record { n = 0; of = record {} } in
-    placed_more (numbers c.args.order.now) c.loop-place.place _ c.loop-place.places.items
+    placed_more (numbers_of_set c.args.order.now) c.loop-place.place _ c.loop-place.places.items
     (event_stands c.args.order.now c.loop-place.place d c.loop-place-test.true) c.requires c.loop-place.invariant
 
 pub returns : goal.returns
@@ -33,7 +33,7 @@ returns c = record {
   each = λ k e s. c.loop-place.invariant.placed k e
       (omega (
         arith,
-        stands_within (numbers c.args.order.now) k e s,
+        stands_within (numbers_of_set c.args.order.now) k e s,
         length-map c.args.order.now
             (λ (x : EventId). x.n),
         c.loop-place-test.false,

@@ -11,7 +11,7 @@ use Rattle.eq_core.specs.Views.{gate_of, operand_of}
 use Rattle.eq_core.proofs.Telling.{place_below}
 use Rattle.mode_nodes.proofs.Allowed.{GrowsWithin-none, GrowsWithin-then}
 use Rattle.diagram_steps.specs.Joints.{AreTabled}
-use Rattle.mode_diagrams.specs.Agreement.{IsReady, AreReady}
+use Rattle.mode_diagrams.specs.Agreement.{IsOperandReady, AreReady}
 use Rattle.mode_diagrams.specs.Lacking.LacksSome.{own, named}
 use Rattle.mode_diagrams.proofs.Placing.{gates_none, gates_more, some_lacks}
 use Rattle.mode_diagrams.proofs.Tabling.{IsDrawing, drawing_begins, gate_ready, root_ready, drawing_next}
@@ -109,7 +109,7 @@ operand_diagram-requires-clause-below c =
 pub returns-clause-agrees : goal.returns-clause-agrees
 returns-clause-agrees c = ok_map c.operand_diagram.result
     (λ n f. f (map gate_of c.args.gates.now)
-    (subst (λ z. IsReady c.args.trees.now (map gate_of c.args.gates.now) z c.loop-number.store (operand_of c.args.root))
+    (subst (λ z. IsOperandReady c.args.trees.now (map gate_of c.args.gates.now) z c.loop-number.store (operand_of c.args.root))
     (sym c.deref-2.ensures.value)
     (root_ready c.args.trees.now (map gate_of c.args.gates.now) (operand_of c.args.root) c.args.marks.now
     c.requires.closed c.loop-number.number c.loop-number.table.items c.loop-number.store

@@ -1,6 +1,6 @@
-use Rattle.mode_diagrams.specs.Lacking.{ArePlaced}
+use Rattle.mode_diagrams.specs.Lacking.{HavePlacedEvents}
 use Rattle.mode_diagrams.proofs.events.places.Given as goal
 
 -- the trees so far have their places
 abbrev pub invariant-loop-place : goal.invariant-loop-place
-invariant-loop-place l = ArePlaced l.fn.trees l.place l.places
+invariant-loop-place l = HavePlacedEvents l.fn.trees l.place l.places

@@ -6,7 +6,7 @@ use Rattle.ar_base.proofs.Standing.{stands_get, stands_map}
 use Rattle.eq_core.specs.declared.joints.Operand.{Operand}
 use Rattle.eq_core.specs.declared.joints.Operand.TheVariants.{Always}
 use Rattle.eq_core.specs.Views.{all_needed, operand_of}
-use Rattle.diagram_steps.specs.Joints.{IsJoint}
+use Rattle.diagram_steps.specs.Joints.{IsDiagramJoint}
 use Rattle.mode_diagrams.proofs.Joining.{AreDrawn, drawn_more, drawn_joint, drawn_known}
 use Rattle.mode_diagrams.proofs.gates.gate_diagram.Goals as goal
 
@@ -85,8 +85,8 @@ returns-clause-agrees c = λ _ gates ready.
     let r = c.in_ok-joined.field-0.n in
     drawn_joint c.args.trees.now c.args.table.now c.args.store.now (all_needed c.args.gate.now.joint)
     (map operand_of items) ns c.loop-operand.store t r all c.loop-operand.invariant.drawn c.in_ok-joined.ensures.grows
-    (subst (λ (b : Bool). IsJoint b c.loop-operand.store ns t.store r) both
-    (subst (λ z. IsJoint c.eq.result c.loop-operand.store z t.store r) c.deref.ensures.value c.in_ok-joined.ensures.joint))
+    (subst (λ (b : Bool). IsDiagramJoint b c.loop-operand.store ns t.store r) both
+    (subst (λ z. IsDiagramJoint c.eq.result c.loop-operand.store z t.store r) c.deref.ensures.value c.in_ok-joined.ensures.joint))
     gates ready
 
 pub returns-clause-known : goal.returns-clause-known

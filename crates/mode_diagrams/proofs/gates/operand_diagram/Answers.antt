@@ -4,7 +4,7 @@ use Rattle.ar_base.proofs.Standing.{stands_get}
 use Rattle.eq_core.specs.ValuesInside.{IsBelow}
 use Rattle.eq_core.specs.Views.{operand_of}
 use Rattle.mode_nodes.specs.Diagrams.{DiagramId}
-use Rattle.mode_diagrams.specs.Agreement.{Agrees}
+use Rattle.mode_diagrams.specs.Agreement.{HasOperandValues}
 use Rattle.mode_diagrams.proofs.Laws.{agrees_always, agrees_never, agrees_event, agrees_gate}
 use Rattle.mode_diagrams.proofs.Placing.{lacks_event}
 use Rattle.mode_diagrams.proofs.gates.operand_diagram.Goals as goal
@@ -14,12 +14,12 @@ false_number = record { n = 0; of = record {} }
 
 pub returns-in-Always-clause-agrees : goal.returns-in-Always-clause-agrees
 returns-in-Always-clause-agrees c = λ gates ready.
-    subst (λ o. Agrees c.args.trees.now gates (operand_of o) c.args.store.now c.new.result.n) (sym c.in-Always.is)
+    subst (λ o. HasOperandValues c.args.trees.now gates (operand_of o) c.args.store.now c.new.result.n) (sym c.in-Always.is)
     (agrees_always c.args.trees.now gates c.args.store.now c.new.result.n c.new.ensures)
 
 pub returns-in-Never-clause-agrees : goal.returns-in-Never-clause-agrees
 returns-in-Never-clause-agrees c = λ gates ready.
-    subst (λ o. Agrees c.args.trees.now gates (operand_of o) c.args.store.now c.new-in-Never.result.n) (sym c.in-Never.is)
+    subst (λ o. HasOperandValues c.args.trees.now gates (operand_of o) c.args.store.now c.new-in-Never.result.n) (sym c.in-Never.is)
     (agrees_never c.args.trees.now gates c.args.store.now c.new-in-Never.result.n c.new-in-Never.ensures)
 
 pub signed-requires : goal.signed-requires
@@ -27,7 +27,7 @@ signed-requires c = (c.in_ok-plain-in-Event.ensures.agrees []).number
 
 pub returns-in_ok-signed-in-Event-clause-agrees : goal.returns-in_ok-signed-in-Event-clause-agrees
 returns-in_ok-signed-in-Event-clause-agrees c = λ gates ready.
-    subst (λ o. Agrees c.args.trees.now gates (operand_of o) c.signed.new.store c.in_ok-signed-in-Event.field-0.n)
+    subst (λ o. HasOperandValues c.args.trees.now gates (operand_of o) c.signed.new.store c.in_ok-signed-in-Event.field-0.n)
     (sym c.in-Event.is)
     (agrees_event c.args.trees.now gates c.in-Event.event.n c.in-Event.sign c.event_diagram.new.store c.signed.new.store
     c.in_ok-plain-in-Event.plain.n c.in_ok-signed-in-Event.field-0.n c.in_ok-signed-in-Event.ensures.grows (c.in_ok-plain-in-Event.ensures.agrees gates)
@@ -47,7 +47,7 @@ returns-in_ok-signed-in-Gate-clause-agrees c = λ gates ready.
     let inside : g < length table =
     subst (λ o. IsBelow (length table) (operand_of o)) c.in-Gate.is c.requires.below in
     let at = stands_get table g false_number inside in
-    subst (λ o. Agrees c.args.trees.now gates (operand_of o) c.signed-in-Gate.new.store c.in_ok-signed-in-Gate.field-0.n)
+    subst (λ o. HasOperandValues c.args.trees.now gates (operand_of o) c.signed-in-Gate.new.store c.in_ok-signed-in-Gate.field-0.n)
     (sym c.in-Gate.is)
     (agrees_gate c.args.trees.now gates g c.in-Gate.sign c.args.store.now c.signed-in-Gate.new.store
     (get_or table g false_number).n c.in_ok-signed-in-Gate.field-0.n c.in_ok-signed-in-Gate.ensures.grows

@@ -6,11 +6,11 @@ use Rattle.ar_base.proofs.Standing.{stands_one, stands_map, stands_map_back}
 use Rattle.domains.specs.declared.Value.{Value}
 use Rattle.ar_firing.specs.Forest.{Row}
 use Rattle.mode_trees.specs.declared.forests.Edge.{Edge}
-use Rattle.mode_trees.specs.Views.{row_of, tree_of}
+use Rattle.mode_trees.specs.Views.{edge_row, tree_of}
 use Rattle.mode_diagrams.specs.Numbers.{modes_in}
 use Rattle.mode_diagrams.proofs.numbering.mode_number.Goals as goal
 
-to_mode : (edge : Edge) (row : Row) (mode : Value) → row_of (λ n. n) edge ≡ row → row.to ≡ mode → edge.to ≡ mode
+to_mode : (edge : Edge) (row : Row) (mode : Value) → edge_row (λ n. n) edge ≡ row → row.to ≡ mode → edge.to ≡ mode
 to_mode edge row mode same to = ap (λ (r : Row). r.to) same ∙ to
 
 pub returns-then-eq-2 : goal.returns-then-eq-2
@@ -27,8 +27,8 @@ returns-then-eq-2 c =
       early = omega (arith, c.loop-k-test.true);
       stands = subst (λ n. Stands (modes_in tree) n c.args.mode) (sym next)
           (subst (λ v. Stands (modes_in tree) (suc k) v) same
-          (stands_map (λ (r : Row). r.to) tree.edges k (row_of (λ n. n) edge)
-          (stands_map (row_of (λ n. n)) items k edge at)));
+          (stands_map (λ (r : Row). r.to) tree.edges k (edge_row (λ n. n) edge)
+          (stands_map (edge_row (λ n. n)) items k edge at)));
     }
 
 pub loop-k-init : goal.loop-k-init
@@ -56,7 +56,7 @@ unreachable-requires c =
     ⊎_elim
     (λ e. differs (sym e))
     (λ w.
-    let b = stands_map_back (row_of (λ n. n)) c.args.tree.now.edges.items w.0 w.1 w.3 in
+    let b = stands_map_back (edge_row (λ n. n)) c.args.tree.now.edges.items w.0 w.1 w.3 in
     c.loop-k.invariant w.0 b.0 (omega (arith, w.2, c.loop-k-test.false)) b.1
     (to_mode b.0 w.1 c.args.mode b.2 w.4))
     c.requires.known

@@ -2,8 +2,8 @@ use Rattle.std.proofs.Common.{◌≡◌, ◌+◌, [], ◌∷◌, ◌++◌, map, 
 use Rattle.std.proofs.lemmas.List.{take_all, take_more, map-append, nil_from_length}
 use Rattle.std.proofs.lemmas.List.Elements.{All-nil}
 use Rattle.ar_base.proofs.Standing.{stands_item, stands_map}
-use Rattle.mode_trees.specs.Views.{row_of, tree_of}
-use Rattle.mode_diagrams.specs.Numbers.{none, HasFewEdges, IsNumberOf, IsWide}
+use Rattle.mode_trees.specs.Views.{edge_row, tree_of}
+use Rattle.mode_diagrams.specs.Numbers.{none, HasFewEdges, IsNumberOf, IsWideTree}
 use Rattle.mode_diagrams.proofs.Making.{AreMade, made_passed, made_more, none_wide, zero_from}
 use Rattle.mode_diagrams.proofs.numbering.numbered.Goals as goal
 use Rattle.mode_diagrams.proofs.numbering.numbered.Goals.{then-not-is_empty+in_ok-next+in-Some+in_ok-push, else-not-is_empty}
@@ -30,7 +30,7 @@ loop-tree-preserved c =
       | else-not-is_empty w ↦ subst (AreMade (map view (take k trees) ++ view tree ∷ []))
           (sym (ap (λ v. v.items) w.made-is))
           (made_passed (map view (take k trees)) c.loop-tree.made.items (view tree)
-          (ap (map (row_of (λ n. n)))
+          (ap (map (edge_row (λ n. n)))
           (nil_from_length tree.edges.items (let z = zero_from _ (sym w.if-not-is_empty.ensures) in omega (arith, z, tree.edges.ok)))) c.loop-tree.invariant)
     ])
 
@@ -57,7 +57,7 @@ returns-in_default-clause-none c =
         place = k;
         stands = stands_map view trees k tree (stands_item trees k tree c.loop-tree-test.true c.tree-item.is);
       };
-      wide = subst (λ o. IfNone o (IsWide (view tree))) c.in_default.is c.in_ok-next.ensures.none;
+      wide = subst (λ o. IfNone o (IsWideTree (view tree))) c.in_default.is c.in_ok-next.ensures.none;
     }
 
 pub returns-clause-some : goal.returns-clause-some

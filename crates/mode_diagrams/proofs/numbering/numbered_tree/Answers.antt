@@ -2,7 +2,7 @@ use Rattle.std.proofs.Common.{◌+◌, ◌<◌, length, refl, sym, subst, arith}
 use Rattle.std.proofs.lemmas.Option.{slice_get_read}
 use Rattle.ar_base.specs.Lists.{Stands}
 use Rattle.ar_base.proofs.Standing.{stands_map}
-use Rattle.mode_trees.specs.Views.{row_of, tree_of}
+use Rattle.mode_trees.specs.Views.{edge_row, tree_of}
 use Rattle.mode_diagrams.proofs.Making.{IsSoFar, so_far_none, so_far_more}
 use Rattle.mode_diagrams.proofs.numbering.numbered_tree.Goals as goal
 
@@ -20,9 +20,9 @@ loop-place-preserved c =
     let inside : k < length items = omega (arith, c.loop-place-test.true, c.len-place-end.ensures, c.args.tree.now.edges.ok) in
     let at : Stands items k found = slice_get_read items (length items) k found refl inside c.index-edge.ensures in
     subst (IsSoFar tree (k + 1)) (sym c.in_ok-push.ensures.items)
-    (so_far_more tree k c.loop-place.edges.items (row_of (λ n. n) found)
+    (so_far_more tree k c.loop-place.edges.items (edge_row (λ n. n) found)
     (record { event = found.event; from = c.mode_number-from.result })
-    (stands_map (row_of (λ n. n)) items k found at) c.loop-place.invariant refl c.mode_number-from.ensures)
+    (stands_map (edge_row (λ n. n)) items k found at) c.loop-place.invariant refl c.mode_number-from.ensures)
 
 pub mode_number-from-requires-clause-known : goal.mode_number-from-requires-clause-known
 mode_number-from-requires-clause-known c =
@@ -32,4 +32,4 @@ mode_number-from-requires-clause-known c =
     let found = c.index-edge.result.now in
     let inside : k < length items = omega (arith, c.loop-place-test.true, c.len-place-end.ensures, c.args.tree.now.edges.ok) in
     let at : Stands items k found = slice_get_read items (length items) k found refl inside c.index-edge.ensures in
-    c.requires.tree.from k (row_of (λ n. n) found) (stands_map (row_of (λ n. n)) items k found at)
+    c.requires.tree.from k (edge_row (λ n. n) found) (stands_map (edge_row (λ n. n)) items k found at)

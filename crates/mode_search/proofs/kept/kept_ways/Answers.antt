@@ -1,7 +1,7 @@
 use Rattle.std.proofs.Common.{◌≡◌, ◌<◌, ◌+◌, ℕ, Bool, false, List, None, Vec, Global, length, get_or, ap, subst, sym, arith}
 use Rattle.ar_base.specs.Lists.{Stands}
 use Rattle.gts_core.specs.declared.system.Event.{Event}
-use Rattle.mode_search.specs.Kept.{AreKept}
+use Rattle.mode_search.specs.Kept.{AreKeptWaysBefore}
 use Rattle.mode_search.specs.declared.kept.KeptWay.{KeptWay}
 use Rattle.ar_base.proofs.Standing.{stands_item, stands_get}
 use Rattle.mode_search.proofs.FirstStates.{first_there}
@@ -10,7 +10,7 @@ use Rattle.mode_search.proofs.kept.kept_ways.Goals as goal
 use Rattle.mode_search.proofs.kept.kept_ways.Goals.{then-not-marks-n+in_ok-add_event, else-not-marks-n}
 
 pub loop-n-init : goal.loop-n-init
-loop-n-init c = subst (λ (z : List KeptWay). AreKept c.args.parts.now c.args.marks.now 0 0 z)
+loop-n-init c = subst (λ (z : List KeptWay). AreKeptWaysBefore c.args.parts.now c.args.marks.now 0 0 z)
     (sym c.new-kept.ensures.items) (kept_start c.args.parts.now c.args.marks.now)
 
 pub add_event-requires-clause-event : goal.add_event-requires-clause-event
@@ -54,12 +54,12 @@ loop-n-preserved c =
           let unmarked = subst (λ (z : ℕ). Stands marks z false) (sym w.new.ensures)
           (subst (λ (z : Bool). Stands marks n z) w.if-not-marks-n.true mark) in
           let more = continues_event p marks id x old new here unmarked w.in_ok-add_event.ensures in
-          subst (λ (z : List KeptWay). AreKept p marks (n + 1) 0 z)
+          subst (λ (z : List KeptWay). AreKeptWaysBefore p marks (n + 1) 0 z)
           (sym (ap (λ (z : Vec KeptWay Global). z.items) w.kept-is))
-          (subst (λ (z : ℕ). AreKept p marks (z + 1) 0 new) w.new.ensures
-          (more.on (subst (λ (z : ℕ). AreKept p marks z 0 old) (sym w.new.ensures) c.loop-n.invariant)))
+          (subst (λ (z : ℕ). AreKeptWaysBefore p marks (z + 1) 0 new) w.new.ensures
+          (more.on (subst (λ (z : ℕ). AreKeptWaysBefore p marks z 0 old) (sym w.new.ensures) c.loop-n.invariant)))
       | else-not-marks-n w ↦
-          subst (λ (z : List KeptWay). AreKept p marks (n + 1) 0 z)
+          subst (λ (z : List KeptWay). AreKeptWaysBefore p marks (n + 1) 0 z)
           (sym (ap (λ (z : Vec KeptWay Global). z.items) w.kept-is))
           ((continues_marked p marks n old (subst (λ (z : Bool). Stands marks n z) w.if-not-marks-n.false mark)).on
           c.loop-n.invariant)

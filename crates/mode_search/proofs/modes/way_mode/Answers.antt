@@ -1,6 +1,6 @@
 use Rattle.std.proofs.Common.{List, subst}
 use Rattle.ar_base.specs.Numbers.{VarId}
-use Rattle.mode_search.specs.Modes.{IsNamedState, IsLeast, IsAlone, lesser_of}
+use Rattle.mode_search.specs.Modes.{IsNamedState, IsLeastVariable, IsAlone, lesser_of}
 use Rattle.mode_search.proofs.LeastStates.{Read, named_least, mode_is, guard_alone, action_alone}
 use Rattle.mode_search.proofs.modes.way_mode.Goals as goal
 
@@ -14,9 +14,9 @@ returns c =
     let x = c.in-Some.variable in
     let read : Read g acts guards actions =
     record { guard = c.in_ok-in_guard.ensures; action = c.in_ok-in_action.ensures } in
-    let a = subst (λ (z : List VarId). IsLeast (IsNamedState p c.args.unit.n z) c.least_state.result)
+    let a = subst (λ (z : List VarId). IsLeastVariable (IsNamedState p c.args.unit.n z) c.least_state.result)
     c.deref.ensures.value c.least_state.ensures in
-    let b = subst (λ (z : List VarId). IsLeast (IsNamedState p c.args.unit.n z) c.least_state-2.result)
+    let b = subst (λ (z : List VarId). IsLeastVariable (IsNamedState p c.args.unit.n z) c.least_state-2.result)
     c.deref-2.ensures.value c.least_state-2.ensures in
     let least = named_least p c.args.unit.n g acts guards actions read c.least_state.result c.least_state-2.result a
     b in

@@ -1,8 +1,8 @@
 use Rattle.std.proofs.Common.{◌≡◌, ◌<◌, ◌≤◌, ℕ, List, Vec, Global, length, get_or, subst, sym, ◌∙◌, arith}
 use Rattle.mode_search.specs.declared.kept.KeptWay.{KeptWay}
 use Rattle.ar_base.proofs.Standing.{stands_item}
-use Rattle.mode_search.specs.Reached.{AreInside, AreApart, IsReach}
-use Rattle.mode_search.specs.Rows.{ways_of, AreBelow}
+use Rattle.mode_search.specs.Reached.{AreWaysOfParts, AreDifferentWays, IsReach}
+use Rattle.mode_search.specs.Rows.{variable_ways, HaveVariablesBelow}
 use Rattle.mode_search.specs.Reaches.{AreReaches}
 use Rattle.mode_search.proofs.Usable.{all_below, row_inside, row_apart, reaches_start, reaches_more}
 use Rattle.mode_search.proofs.reaches.all_reached.Goals as goal
@@ -11,7 +11,7 @@ pub rows-requires : goal.rows-requires
 rows-requires c =
     let e : length c.args.parts.now.variables.items ≡ c.len.result =
     omega (arith, c.len.ensures, c.args.parts.now.variables.ok.0) in
-    subst (λ (n : ℕ). AreBelow n c.args.kept.now) e
+    subst (λ (n : ℕ). HaveVariablesBelow n c.args.kept.now) e
     (all_below c.args.parts.now c.requires.sound c.args.kept.now c.requires.kept)
 
 pub loop-n-init : goal.loop-n-init
@@ -25,7 +25,7 @@ reached-requires-clause-inside c =
     c.row-item.is in
     let row = c.in_ok-rows.ensures.row c.loop-n.n c.row-item.result
     (stands_item c.in_ok-rows.rows.items c.loop-n.n c.row-item.result below is) in
-    subst (λ (z : List KeptWay). AreInside c.args.parts.now z) (sym (c.deref.ensures.value ∙ row))
+    subst (λ (z : List KeptWay). AreWaysOfParts c.args.parts.now z) (sym (c.deref.ensures.value ∙ row))
     (row_inside c.args.parts.now c.requires.sound c.args.kept.now c.requires.kept c.loop-n.n)
 
 pub reached-requires-clause-apart : goal.reached-requires-clause-apart
@@ -36,7 +36,7 @@ reached-requires-clause-apart c =
     c.row-item.is in
     let row = c.in_ok-rows.ensures.row c.loop-n.n c.row-item.result
     (stands_item c.in_ok-rows.rows.items c.loop-n.n c.row-item.result below is) in
-    subst (λ (z : List KeptWay). AreApart z) (sym (c.deref.ensures.value ∙ row))
+    subst (λ (z : List KeptWay). AreDifferentWays z) (sym (c.deref.ensures.value ∙ row))
     (row_apart c.args.parts.now c.requires.sound c.args.kept.now c.requires.kept c.loop-n.n)
 
 pub loop-n-preserved : goal.loop-n-preserved
@@ -51,7 +51,7 @@ loop-n-preserved c =
     (c.deref.ensures.value ∙ row) c.in_ok-reach.ensures in
     reaches_more c.args.parts.now c.requires.sound c.args.kept.now c.requires.kept c.loop-n.n c.loop-n.reaches.items
     c.push.new.self.items c.in_ok-reach.reach c.loop-n.invariant
-    (subst (λ (n : ℕ). IsReach c.args.parts.now n (ways_of c.loop-n.n c.args.kept.now) c.in_ok-reach.reach)
+    (subst (λ (n : ℕ). IsReach c.args.parts.now n (variable_ways c.loop-n.n c.args.kept.now) c.in_ok-reach.reach)
     c.new.ensures r) c.in_ok-push.ensures.items
 
 pub returns : goal.returns

@@ -1,6 +1,6 @@
 use Rattle.std.proofs.Common.{[]}
-use Rattle.mode_search.specs.Rows.{AreRows}
+use Rattle.mode_search.specs.Rows.{AreVariableRows}
 use Rattle.mode_search.proofs.rows.empty_rows.Given as goal
 
 abbrev pub invariant-loop : goal.invariant-loop
-invariant-loop l = AreRows l.counter [] l.rows.items
+invariant-loop l = AreVariableRows l.counter [] l.rows.items

@@ -1,23 +1,23 @@
 use Rattle.std.proofs.Common.{◌≡◌, ◌<◌, ◌+◌, ◌++◌, ℕ, [], ◌∷◌, true, false, List, Vec, Global, length, take, get_or, set, sym, ap, subst, arith}
 use Rattle.ar_base.proofs.Standing.{stands_item}
-use Rattle.mode_search.specs.Rows.{AreRows, AreBelow}
+use Rattle.mode_search.specs.Rows.{AreVariableRows, HaveVariablesBelow}
 use Rattle.mode_search.specs.declared.kept.KeptWay.{KeptWay}
 use Rattle.mode_search.proofs.Sorting.{puts_hidden, puts_visible, rows_more, rows_all, below_read}
 use Rattle.mode_search.proofs.rows.rows.Goals as goal
 use Rattle.mode_search.proofs.rows.rows.Goals.{then-way+in_ok-push, else-way}
 
 module _ (count : ℕ) (kept : List KeptWay) (i : ℕ) (d : KeptWay) (old : List (Vec KeptWay Global))
-    (l : i < length kept) (are : AreRows count (take i kept) old) where
+    (l : i < length kept) (are : AreVariableRows count (take i kept) old) where
   -- a visible way goes into the row of its mode variable
-  visible : (row new : Vec KeptWay Global) → AreBelow count kept → (get_or kept i d).visible ≡ true
+  visible : (row new : Vec KeptWay Global) → HaveVariablesBelow count kept → (get_or kept i d).visible ≡ true
       → row ≡ get_or old (get_or kept i d).mode.variable.n row → new.items ≡ row.items ++ get_or kept i d ∷ []
-      → AreRows count (take (i + 1) kept) (set old (get_or kept i d).mode.variable.n new)
+      → AreVariableRows count (take (i + 1) kept) (set old (get_or kept i d).mode.variable.n new)
   visible row new below seen at items = rows_more count kept i d old _ l are
       (puts_visible (get_or kept i d) old row new seen
       (stands_item old (get_or kept i d).mode.variable.n row (below_read count kept i d old l below are.long) at) items)
 
   -- and no other goes anywhere
-  hidden : (get_or kept i d).visible ≡ false → AreRows count (take (i + 1) kept) old
+  hidden : (get_or kept i d).visible ≡ false → AreVariableRows count (take (i + 1) kept) old
   hidden unseen = rows_more count kept i d old old l are (puts_hidden (get_or kept i d) old unseen)
 
 -- what is read past the end
@@ -43,12 +43,12 @@ loop-way-preserved c =
     let old = c.loop-way.rows.items in
     elim c.if-way.branch [
       | then-way+in_ok-push w ↦
-          subst (λ (z : List (Vec KeptWay Global)). AreRows c.args.count (take (i + 1) kept) z)
+          subst (λ (z : List (Vec KeptWay Global)). AreVariableRows c.args.count (take (i + 1) kept) z)
           (sym (ap (λ (z : Vec (Vec KeptWay Global) Global). z.items) w.rows-is))
           (visible c.args.count kept i _ old c.loop-way-test.true c.loop-way.invariant w.index_mut.result.now
           w.push.new.self c.requires w.if-way.true w.index_mut.ensures.value w.in_ok-push.ensures.items)
       | else-way w ↦
-          subst (λ (z : List (Vec KeptWay Global)). AreRows c.args.count (take (i + 1) kept) z)
+          subst (λ (z : List (Vec KeptWay Global)). AreVariableRows c.args.count (take (i + 1) kept) z)
           (sym (ap (λ (z : Vec (Vec KeptWay Global) Global). z.items) w.rows-is))
           (hidden c.args.count kept i _ old c.loop-way-test.true c.loop-way.invariant w.if-way.false)
     ]

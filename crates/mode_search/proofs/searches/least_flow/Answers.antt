@@ -1,7 +1,7 @@
 use Rattle.std.proofs.Common.{◌≡◌, ◌<◌, ◌≤◌, ℕ, List, length, get_or, subst, arith}
 use Rattle.gts_core.specs.declared.system.Assign.{Assign}
 use Rattle.ar_base.proofs.Standing.{stands_item}
-use Rattle.mode_search.specs.Events.{IsLeast}
+use Rattle.mode_search.specs.Events.{IsLeastNumber}
 use Rattle.mode_search.specs.Wide.{IsWideFlow}
 use Rattle.mode_search.proofs.Assigning.{flows_start, flows_more}
 use Rattle.mode_search.proofs.searches.least_flow.Goals as goal
@@ -27,4 +27,4 @@ returns c =
     let within = subst (λ (z : List Assign). c.loop-assign.assign-index ≤ length z) c.deref-assign-items.ensures.value
     c.loop-assign.auto.assign-index-end in
     let e : c.loop-assign.assign-index ≡ length c.args.parts.now.assigns.items = omega arith in
-    subst (λ (n : ℕ). IsLeast (IsWideFlow c.args.parts.now n) c.loop-assign.least) e c.loop-assign.invariant
+    subst (λ (n : ℕ). IsLeastNumber (IsWideFlow c.args.parts.now n) c.loop-assign.least) e c.loop-assign.invariant

@@ -1,5 +1,5 @@
 use Rattle.std.proofs.Common.{take}
-use Rattle.cut_text.specs.Printed.{edges_of}
+use Rattle.cut_text.specs.Printed.{forest_edges}
 use Rattle.module_text.proofs.Placing.{tree_more}
 use Rattle.module_text.proofs.places.edge_places.Goals as goal
 
@@ -9,4 +9,4 @@ loop-tree-preserved c =
     let k = c.loop-tree.tree-index in
     tree_more ts c.deref-tree-items.result.now k c.tree-item.result c.deref-tree-items.ensures.value
     c.loop-tree-test.true c.tree-item.is c.deref.result.now c.deref.ensures.value c.add_edges.new.table
-    (c.in_ok-add_edges.ensures (edges_of (take k ts)) c.loop-tree.invariant)
+    (c.in_ok-add_edges.ensures (forest_edges (take k ts)) c.loop-tree.invariant)

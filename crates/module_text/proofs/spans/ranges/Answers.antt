@@ -5,7 +5,7 @@ use Rattle.ar_base.proofs.Standing.{stands_get}
 use Rattle.hierarchy.specs.declared.tree.MemNode.{MemNode}
 use Rattle.hierarchy.specs.declared.tree.UnitNode.{UnitNode}
 use Rattle.gate_modules.specs.declared.ranges.Range.{Range}
-use Rattle.module_text.specs.Spans.{AreBelow, AreEmpty, AllGain, IsAtOver, IsAtFirst, AllReach}
+use Rattle.module_text.specs.Spans.{StandBehindOwners, AreEmptyRanges, AllGain, IsAtOver, IsAtFirst, AllReach}
 use Rattle.module_text.proofs.Reaching.{all_reach}
 use Rattle.module_text.proofs.Spanning.{gathered_next, all_gathered, spans_are_ranges}
 use Rattle.module_text.proofs.UnitSpans.{are_below, known_unit, of_between, some_units, spans_of_units}
@@ -21,7 +21,7 @@ no_node = record {
 
 pub add_event-requires-clause-owners : goal.add_event-requires-clause-owners
 add_event-requires-clause-owners c =
-    subst AreBelow (sym c.deref-in-loop-number.ensures.value)
+    subst StandBehindOwners (sym c.deref-in-loop-number.ensures.value)
     (are_below c.requires.model c.requires.units c.args.tree.now c.requires.is_tree)
 
 pub add_event-requires-clause-known : goal.add_event-requires-clause-known
@@ -37,7 +37,7 @@ add_event-requires-clause-known c =
 pub add_event-requires-clause-room : goal.add_event-requires-clause-room
 add_event-requires-clause-room c =
     let tree = c.args.tree.now in
-    let empty = subst (λ (z : List UnitNode). AreEmpty (length z) c.in_ok-ranges.ranges.items) c.deref.ensures.value
+    let empty = subst (λ (z : List UnitNode). AreEmptyRanges (length z) c.in_ok-ranges.ranges.items) c.deref.ensures.value
     c.in_ok-ranges.ensures in
     let long = empty.long (some_units c.requires.model c.requires.units tree c.requires.is_tree) in
     ap (λ (z : List Range). length z + 1) c.deref_mut.ensures.value
@@ -55,7 +55,7 @@ add_event-requires-clause-next c =
     let d = get_or c.deref-event-items.result.now n no_node in
     let there = stands_get c.deref-event-items.result.now n no_node c.loop-number-test.true in
     let s = subst (λ (ds : List MemNode). Stands ds n d) c.deref-event-items.ensures.value there in
-    let empty = subst (λ (z : List UnitNode). AreEmpty (length z) start) c.deref.ensures.value c.in_ok-ranges.ensures in
+    let empty = subst (λ (z : List UnitNode). AreEmptyRanges (length z) start) c.deref.ensures.value c.in_ok-ranges.ensures in
     subst (λ (z : List UnitNode). AllReach z d.unit.n n c.deref_mut.result.now)
     (sym c.deref-in-loop-number.ensures.value)
     (subst (λ (z : List Range). AllReach nodes d.unit.n n z) (sym c.deref_mut.ensures.value)
@@ -93,7 +93,7 @@ returns-clause-are_ranges c =
     let made = c.loop-number.ranges.items in
     let all : length events ≤ n = subst (λ (z : List MemNode). length z ≤ n) c.deref-event-items.ensures.value
     c.loop-number-test.false in
-    let empty = subst (λ (z : List UnitNode). AreEmpty (length z) start) c.deref.ensures.value c.in_ok-ranges.ensures in
+    let empty = subst (λ (z : List UnitNode). AreEmptyRanges (length z) start) c.deref.ensures.value c.in_ok-ranges.ensures in
     spans_are_ranges nodes events (are_below c.requires.model c.requires.units tree c.requires.is_tree) made
     (all_gathered nodes events n start made all empty c.loop-number.invariant)
 
@@ -107,5 +107,5 @@ returns-clause-of_units c = λ m units is.
     let made = c.loop-number.ranges.items in
     let all : length events ≤ n = subst (λ (z : List MemNode). length z ≤ n) c.deref-event-items.ensures.value
     c.loop-number-test.false in
-    let empty = subst (λ (z : List UnitNode). AreEmpty (length z) start) c.deref.ensures.value c.in_ok-ranges.ensures in
+    let empty = subst (λ (z : List UnitNode). AreEmptyRanges (length z) start) c.deref.ensures.value c.in_ok-ranges.ensures in
     spans_of_units m units tree is made (all_gathered nodes events n start made all empty c.loop-number.invariant)

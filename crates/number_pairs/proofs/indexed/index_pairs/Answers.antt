@@ -2,7 +2,7 @@ use Rattle.std.proofs.Common.{ℕ, List, rules, sym, subst, arith}
 use Rattle.std.specs.List.Sorted.{IsNonDecreasingBy}
 use Rattle.std.proofs.lemmas.List.Sorted.{IsNonDecreasingBy-from_sort_by_key}
 use Rattle.ar_base.specs.Lists.{IsOneOf}
-use Rattle.number_pairs.specs.Starts.{IsStart}
+use Rattle.number_pairs.specs.Starts.{IsPairStart}
 use Rattle.number_pairs.proofs.indexed.index_pairs.Goals as goal
 
 pub count_of-requires : goal.count_of-requires
@@ -20,7 +20,7 @@ starts_of-requires c = subst (λ (z : List (ℕ × ℕ)). IsNonDecreasingBy (λ 
 pub invariant_of-result : goal.invariant_of-result
 invariant_of-result c = record {
   runs = record {
-    each = λ x start s. subst (λ (z : List (ℕ × ℕ)). IsStart z x start) c.deref.ensures.value
+    each = λ x start s. subst (λ (z : List (ℕ × ℕ)). IsPairStart z x start) c.deref.ensures.value
         (c.in_ok-starts.ensures.each x start s);
     all = λ q o.
         let h = c.count_of.ensures.above q

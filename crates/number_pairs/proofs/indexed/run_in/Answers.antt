@@ -1,7 +1,7 @@
 use Rattle.std.proofs.Common.{◌≤◌, ◌+◌, ℕ, length, List, rules, subst, arith, sym, refl}
 use Rattle.ar_base.specs.Lists.{IsOneOf}
 use Rattle.ar_base.proofs.Standing.{stands_item}
-use Rattle.number_pairs.specs.Starts.{IsStart}
+use Rattle.number_pairs.specs.Starts.{IsPairStart}
 use Rattle.number_pairs.proofs.PairRuns.{from_to, run_among, run_exact, run_all}
 use Rattle.number_pairs.proofs.indexed.run_in.Goals as goal
 
@@ -42,10 +42,10 @@ returns c =
     let x = c.args.first in
     let pairs = c.deref.result.now in
     let e = c.deref.ensures.value in
-    let low : IsStart pairs x from = subst (λ (z : List (ℕ × ℕ)). IsStart z x from) (sym e)
+    let low : IsPairStart pairs x from = subst (λ (z : List (ℕ × ℕ)). IsPairStart z x from) (sym e)
     (runs.runs.each x from (stands_item runs.starts.items x from (omega arith) c.index.ensures)) in
-    let high : IsStart pairs (x + 1) to =
-    subst (λ (z : List (ℕ × ℕ)). IsStart z (x + 1) to) (sym e)
+    let high : IsPairStart pairs (x + 1) to =
+    subst (λ (z : List (ℕ × ℕ)). IsPairStart z (x + 1) to) (sym e)
     (runs.runs.each (x + 1) to (stands_item runs.starts.items (x + 1) to (omega arith) c.index-2.ensures)) in
     record {
       among = λ r o. (

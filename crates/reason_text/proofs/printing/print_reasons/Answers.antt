@@ -6,7 +6,7 @@ use Rattle.gts_flatten.specs.Flat.{naming_of_parts}
 use Rattle.ar_io.proofs.Writing.{writes_as}
 use Rattle.flow_reasons.specs.Answers.{reasons_of, AreOfState}
 use Rattle.flow_reasons.specs.declared.reason.Reason.{Reason}
-use Rattle.reason_text.specs.Answers.{told_lines, HaveAssigns, AreTold, observed}
+use Rattle.reason_text.specs.Answers.{told_lines, HaveAssigns, AreToldVariables, observed}
 use Rattle.reason_text.specs.Texts.{IsReasonText}
 use Rattle.reason_text.proofs.ToldLines.{have_assigns, lines_are, failed, line_as}
 use Rattle.reason_text.proofs.printing.print_reasons.Goals as goal
@@ -31,7 +31,7 @@ returns-in_err-told_lines g c =
     let told = c.in_ok-told.told.items in
     let names = naming_of_parts p in
     let observer = observed p c.args.observer in
-    let h = subst (λ (z : List Reason). AreTold p (reasons_of z) observer told) c.deref.ensures.value
+    let h = subst (λ (z : List Reason). AreToldVariables p (reasons_of z) observer told) c.deref.ensures.value
     c.in_ok-told.ensures in
     let is : IsReasonText names (net_of p) values observer (told_lines names told (reasons_of found)) =
     record {
@@ -55,7 +55,7 @@ returns g c =
     let told = c.in_ok-told.told.items in
     let names = naming_of_parts p in
     let observer = observed p c.args.observer in
-    let h = subst (λ (z : List Reason). AreTold p (reasons_of z) observer told) c.deref.ensures.value
+    let h = subst (λ (z : List Reason). AreToldVariables p (reasons_of z) observer told) c.deref.ensures.value
     c.in_ok-told.ensures in
     let is : IsReasonText names (net_of p) values observer (told_lines names told (reasons_of found)) =
     record {

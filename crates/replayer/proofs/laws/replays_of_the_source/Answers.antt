@@ -8,7 +8,7 @@ use Rattle.ar_meaning.proofs.ImageRuns.{runs_there}
 use Rattle.ar_meaning.proofs.ImageTexts.{trace_there}
 use Rattle.gts_flatten.specs.Flat.{naming_of, naming_of_parts}
 use Rattle.hierarchy.specs.Listing.{variables}
-use Rattle.typed_expr.specs.PairsInside.{turned}
+use Rattle.typed_expr.specs.PairsInside.{turned_pairs}
 use Rattle.replayer.proofs.laws.replays_of_the_source.Goals as goal
 
 -- equal namings name alike
@@ -29,8 +29,8 @@ returns c = λ x flat p is views commands text end.
     let own = subst (λ (z : System ℕ). IsFlatOf things x.system z) same is.is_flat in (
       λ r. record {
         moments = r.moments;
-        runs = runs_there (turned (IsNumber things)) flat x.system (flat_back things x.system flat own) r.runs;
-        trace = trace_there (turned (IsNumber things)) flat x.system (flat_back things x.system flat own)
+        runs = runs_there (turned_pairs (IsNumber things)) flat x.system (flat_back things x.system flat own) r.runs;
+        trace = trace_there (turned_pairs (IsNumber things)) flat x.system (flat_back things x.system flat own)
             (naming_of_parts p) (naming_of x.declarations) (alike _ _ is.names) r.trace;
         ends = r.ends;
       },

@@ -8,7 +8,7 @@ use Rattle.ar_meaning.proofs.ImageRuns.{runs_there}
 use Rattle.ar_meaning.proofs.ImageTexts.{moment_there}
 use Rattle.gts_flatten.specs.Flat.{naming_of, naming_of_parts}
 use Rattle.hierarchy.specs.Listing.{variables}
-use Rattle.typed_expr.specs.PairsInside.{turned}
+use Rattle.typed_expr.specs.PairsInside.{turned_pairs}
 use Rattle.replayer.proofs.laws.settles_of_the_source.Goals as goal
 
 -- equal namings name alike
@@ -30,7 +30,7 @@ returns-clause-settles c = λ x flat p is views commands t.
       λ r. record {
         first = r.first;
         moments = r.moments;
-        runs = runs_there (turned (IsNumber things)) flat x.system (flat_back things x.system flat own) r.runs;
+        runs = runs_there (turned_pairs (IsNumber things)) flat x.system (flat_back things x.system flat own) r.runs;
         no_fault = r.no_fault;
         last = r.last;
       },
@@ -51,9 +51,9 @@ returns-clause-fault_lines c = λ x flat p is views commands text.
       λ r. record {
         before = r.before;
         fault = r.fault;
-        runs = runs_there (turned (IsNumber things)) flat x.system (flat_back things x.system flat own) r.runs;
+        runs = runs_there (turned_pairs (IsNumber things)) flat x.system (flat_back things x.system flat own) r.runs;
         is_fault = r.is_fault;
-        told = moment_there (turned (IsNumber things)) flat x.system (flat_back things x.system flat own)
+        told = moment_there (turned_pairs (IsNumber things)) flat x.system (flat_back things x.system flat own)
             (naming_of_parts p) (naming_of x.declarations) (alike _ _ is.names) r.told;
       },
       λ r. record {

@@ -7,7 +7,7 @@ use Rattle.domains.specs.declared.Value.{Value}
 use Rattle.gts_core.specs.Readings.{IsTotal}
 use Rattle.gts_core.specs.Sound.{IsSound}
 use Rattle.gts_core.specs.declared.system.GtsParts.{GtsParts}
-use Rattle.replayer.specs.Listing.{AreInside, AreReady, IsReady}
+use Rattle.replayer.specs.Listing.{AreInside, AreReadyWays, IsListReady}
 use Rattle.replayer.specs.Playing.{goes_on}
 use Rattle.replayer.specs.Printing.{values_text, way_lines}
 use Rattle.replayer.proofs.ListLemmas.{some_answers, ready_inside}
@@ -40,7 +40,7 @@ pub find-requires-clause-sound : goal.find-requires-clause-sound
 find-requires-clause-sound g c = subst IsSound (sym c.requires.same) c.requires.sound
 
 pub find-requires-clause-ready : goal.find-requires-clause-ready
-find-requires-clause-ready g c = subst (λ (p : GtsParts). IsReady p c.args.stepper.now.values c.args.latest.now.ready)
+find-requires-clause-ready g c = subst (λ (p : GtsParts). IsListReady p c.args.stepper.now.values c.args.latest.now.ready)
     (sym c.requires.same) c.requires.latest.ready
 
 pub returns-in_err-find-in-Enabled-clause-answers : goal.returns-in_err-find-in-Enabled-clause-answers
@@ -53,7 +53,7 @@ returns-in_err-find-in-Enabled-clause-answers g c = λ system views.
 pub listed-requires : goal.listed-requires
 listed-requires g c =
     let p = c.args.gts.now in
-    let ready = subst (λ (q : GtsParts). AreReady q c.args.stepper.now.values c.find.new.ready.ways.items)
+    let ready = subst (λ (q : GtsParts). AreReadyWays q c.args.stepper.now.values c.find.new.ready.ways.items)
     c.requires.same c.in_ok-find-in-Enabled.ensures.found in
     subst (AreInside p) (sym c.deref-in-Enabled.ensures.value)
     (ready_inside p c.requires.sound c.args.stepper.now.values c.find.new.ready.ways.items ready)
@@ -63,7 +63,7 @@ returns-in_err-listed-in-Enabled-clause-answers g c = λ system views.
     let p = c.args.gts.now in
     let at = c.args.stepper.now in
     let may = some_answers p c.requires.sound at.values in
-    let ready = subst (λ (q : GtsParts). AreReady q at.values c.find.new.ready.ways.items) c.requires.same
+    let ready = subst (λ (q : GtsParts). AreReadyWays q at.values c.find.new.ready.ways.items) c.requires.same
     c.in_ok-find-in-Enabled.ensures.found in
     let e = ap (λ (ways : List WayId). line (codes "enabled") ++ way_lines p ways)
     (c.deref-in-Enabled.ensures.value ∙ ready.are may.0 may.1) in
@@ -78,7 +78,7 @@ returns-in_ok-listed-in-Enabled-clause-answers g c = λ system views.
     let p = c.args.gts.now in
     let at = c.args.stepper.now in
     let may = some_answers p c.requires.sound at.values in
-    let ready = subst (λ (q : GtsParts). AreReady q at.values c.find.new.ready.ways.items) c.requires.same
+    let ready = subst (λ (q : GtsParts). AreReadyWays q at.values c.find.new.ready.ways.items) c.requires.same
     c.in_ok-find-in-Enabled.ensures.found in
     let e = ap (λ (ways : List WayId). line (codes "enabled") ++ way_lines p ways)
     (c.deref-in-Enabled.ensures.value ∙ ready.are may.0 may.1) in

@@ -9,9 +9,9 @@ use Rattle.gts_core.specs.Readings.{IsTotal}
 use Rattle.gts_core.specs.declared.system.GtsParts.{GtsParts}
 use Rattle.gts_flatten.specs.Flat.{naming_of_parts}
 use Rattle.job_inputs.specs.Flat.{command_of}
-use Rattle.replayer.specs.Listing.{IsReady}
+use Rattle.replayer.specs.Listing.{IsListReady}
 use Rattle.replayer.specs.Observing.{AreInOrder}
-use Rattle.replayer.specs.Playing.{AreTotal, Answers}
+use Rattle.replayer.specs.Playing.{AreTotal, AnswersOneCommand}
 use Rattle.replayer.specs.Printing.{values_text}
 use Rattle.job_inputs.specs.declared.commands.Command.{Command}
 use Rattle.job_inputs.specs.declared.commands.Command.TheVariants as code
@@ -58,9 +58,9 @@ loop-command-init g c =
         total = total;
         observed = subst (λ (q : GtsParts). AreInOrder q c.in_ok-latest.latest.observed.items) c.parts.ensures.parts
             c.in_ok-latest.ensures.observed;
-        ready = subst (λ (q : GtsParts). IsReady q c.args.stepper.values c.in_ok-latest.latest.ready)
+        ready = subst (λ (q : GtsParts). IsListReady q c.args.stepper.values c.in_ok-latest.latest.ready)
             c.parts.ensures.parts
-            (subst (λ (t : List Value). IsReady c.parts.result.now t c.in_ok-latest.latest.ready)
+            (subst (λ (t : List Value). IsListReady c.parts.result.now t c.in_ok-latest.latest.ready)
             (c.deref.ensures.value ∙ c.values.ensures.values) c.in_ok-latest.ensures.ready);
       };
       played = λ system views.
@@ -91,7 +91,7 @@ returns-in-Fault g c = λ system views.
     let p = c.args.gts.now in
     let cs = c.args.commands.now in
     let i = c.loop-command.command-index in
-    let a = subst (λ (z : End). Answers (naming_of_parts p) system c.loop-command.stepper c.obey.new.stepper
+    let a = subst (λ (z : End). AnswersOneCommand (naming_of_parts p) system c.loop-command.stepper c.obey.new.stepper
     (command_of p (get_or cs i none)) (g.K.Sink.state c.loop-command.out) (g.K.Sink.state c.obey.new.out)
     (Ok z))
     c.in-Fault.is (c.in_ok-obey.ensures.answers system views) in
@@ -109,7 +109,7 @@ loop-command-preserved g c =
       totals = c.in_ok-obey.ensures.below;
       latest = c.in_ok-obey.ensures.latest c.in-Done.is;
       played = λ system views.
-          let a = subst (λ (z : End). Answers (naming_of_parts p) system c.loop-command.stepper c.obey.new.stepper
+          let a = subst (λ (z : End). AnswersOneCommand (naming_of_parts p) system c.loop-command.stepper c.obey.new.stepper
           (command_of p (get_or cs i none)) (g.K.Sink.state c.loop-command.out) (g.K.Sink.state c.obey.new.out)
           (Ok z))
           c.in-Done.is (c.in_ok-obey.ensures.answers system views) in

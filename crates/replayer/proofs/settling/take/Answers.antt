@@ -2,7 +2,7 @@ use Rattle.std.proofs.Common.{◌∙◌, Err, ap, refl, subst, sym}
 use Rattle.std.proofs.lemmas.Result.{err_from_is_err_and}
 use Rattle.ar_meaning.specs.Runs.{Back}
 use Rattle.gts_flatten.specs.Flat.{naming_of_parts}
-use Rattle.job_inputs.specs.Flat.{IsFirable, command_of}
+use Rattle.job_inputs.specs.Flat.{IsWayOfSystem, command_of}
 use Rattle.text_pieces.proofs.Ranges.{fire_inside}
 use Rattle.replayer.specs.Settling.{GoesOn}
 use Rattle.job_inputs.specs.declared.commands.Command.{Command}
@@ -10,17 +10,17 @@ use Rattle.replayer.proofs.SettleLemmas.{fire_goes, refused, back_goes, back_sto
 use Rattle.replayer.proofs.settling.take.Goals as goal
 
 pub refuse-requires-clause-inside : goal.refuse-requires-clause-inside
-refuse-requires-clause-inside g c = subst (IsFirable c.args.gts.now) c.in-Fire.is c.requires.firable
+refuse-requires-clause-inside g c = subst (IsWayOfSystem c.args.gts.now) c.in-Fire.is c.requires.firable
 
 pub refuse-requires-clause-range : goal.refuse-requires-clause-range
 refuse-requires-clause-range g c =
-    let inside = subst (IsFirable c.args.gts.now) c.in-Fire.is c.requires.firable in
+    let inside = subst (IsWayOfSystem c.args.gts.now) c.in-Fire.is c.requires.firable in
     fire_inside c.args.gts.now c.requires.sound c.in-Fire.way.n inside c.args.stepper.now c.requires.same
     c.in-Err.fault c.in-Err.ensures.fault
 
 pub returns-in-Ok-clause-answers : goal.returns-in-Ok-clause-answers
 returns-in-Ok-clause-answers g c = λ system views.
-    let inside = subst (IsFirable c.args.gts.now) c.in-Fire.is c.requires.firable in
+    let inside = subst (IsWayOfSystem c.args.gts.now) c.in-Fire.is c.requires.firable in
     rw c.in-Fire.is (
       fire_goes c.args.gts.now c.requires.sound system views c.in-Fire.way.n inside c.args.stepper.now
           c.fire.new.self c.requires.same c.in-Ok.ensures.below c.in-Ok.ensures.step,
@@ -29,7 +29,7 @@ returns-in-Ok-clause-answers g c = λ system views.
 
 pub returns-in-Err-clause-answers : goal.returns-in-Err-clause-answers
 returns-in-Err-clause-answers g c = λ system views.
-    let inside = subst (IsFirable c.args.gts.now) c.in-Fire.is c.requires.firable in
+    let inside = subst (IsWayOfSystem c.args.gts.now) c.in-Fire.is c.requires.firable in
     rw c.in-Fire.is (refused c.args.gts.now c.requires.sound system views c.in-Fire.way.n inside c.args.stepper.now
     c.fire.new.self c.in-Err.fault c.requires.same c.in-Err.ensures.fault c.refuse.ensures)
 

@@ -2,10 +2,10 @@ use Rattle.std.proofs.Common.{List, get_or, ap}
 use Rattle.ar_base.specs.Numbers.{VarId}
 use Rattle.ar_io.proofs.Writing.{writes_exit, writes_as, leaves_all, leaves_on, leaves_front, leaves_none, next_read, no_item}
 use Rattle.ar_meaning.specs.TraceText.{variable_line}
-use Rattle.gts_core.specs.Readings.{value_at}
+use Rattle.gts_core.specs.Readings.{valuation_at}
 use Rattle.gts_flatten.specs.Flat.{naming_of_parts}
-use Rattle.value_changes.specs.Changes.{numbers}
-use Rattle.replayer.specs.Printing.{texts_of}
+use Rattle.value_changes.specs.Changes.{changed_numbers}
+use Rattle.replayer.specs.Printing.{numbered_texts}
 use Rattle.replayer.proofs.shown.variable_changes.Goals as goal
 
 -- what is read past the end
@@ -22,7 +22,7 @@ returns-in_err-variable_line g c =
     writes_exit _ _ c.from_residual.ensures.1
     (leaves_front _ _ c.loop-variable.invariant
     (writes_as _ _ (ap (λ v. one x.n v) c.value_at.ensures) c.in_err-variable_line.ensures)
-    (next_read (λ (xs : List VarId). texts_of (λ n. one n (value_at c.args.new.now n)) (numbers xs)) c.args.changed.now
+    (next_read (λ (xs : List VarId). numbered_texts (λ n. one n (valuation_at c.args.new.now n)) (changed_numbers xs)) c.args.changed.now
     c.loop-variable.variable-index none c.loop-variable-test.true))
 
 pub loop-variable-preserved : goal.loop-variable-preserved
@@ -31,12 +31,12 @@ loop-variable-preserved g c =
     let x = get_or c.args.changed.now c.loop-variable.variable-index none in
     leaves_on _ _ c.loop-variable.invariant
     (writes_as _ _ (ap (λ v. one x.n v) c.value_at.ensures) c.in_ok-variable_line.ensures)
-    (next_read (λ (xs : List VarId). texts_of (λ n. one n (value_at c.args.new.now n)) (numbers xs)) c.args.changed.now
+    (next_read (λ (xs : List VarId). numbered_texts (λ n. one n (valuation_at c.args.new.now n)) (changed_numbers xs)) c.args.changed.now
     c.loop-variable.variable-index none c.loop-variable-test.true)
 
 pub returns : goal.returns
 returns g c =
     let one = variable_line (naming_of_parts c.args.parts.now) in
     leaves_none _ c.loop-variable.invariant
-    (no_item (λ (xs : List VarId). texts_of (λ n. one n (value_at c.args.new.now n)) (numbers xs)) c.args.changed.now
+    (no_item (λ (xs : List VarId). numbered_texts (λ n. one n (valuation_at c.args.new.now n)) (changed_numbers xs)) c.args.changed.now
     c.loop-variable.variable-index c.loop-variable-test.false)

@@ -5,14 +5,14 @@ use Rattle.ar_firing.specs.Rules.{S1, S2, AtVariable, KeepsUpTo}
 use Rattle.gts_core.specs.View.{Views}
 use Rattle.gts_core.specs.Sound.{IsSound}
 use Rattle.gts_core.specs.declared.system.GtsParts.{GtsParts}
-use Rattle.mode_search.specs.Events.{numbers_of}
+use Rattle.mode_search.specs.Events.{plain_event_numbers}
 use Rattle.mode_search.specs.declared.kept.KeptWay.{KeptWay}
 use Rattle.mode_trees.specs.Views.{trees_of, number_in}
 use Rattle.mode_trees.specs.Ways.{OwnTheirWays}
 use Rattle.mode_search.specs.declared.searching.Reach.{Reach}
 use Rattle.mode_search.specs.Reaches.{IsAgainAt}
 use Rattle.static_fragment.specs.Recognised.{IsRefusedUpTo}
-use Rattle.static_fragment.specs.Stages.{HasWays, HasReaches, IsSeen, AreFromWays, NoneAgain}
+use Rattle.static_fragment.specs.Stages.{HasKeptWays, HasReaches, IsSeenBelow, AreFromWays, NoneAgain}
 use Rattle.static_fragment.proofs.Judging.{if_err, nowhere, judged6, events_judged, reaches_on, sharing_on}
 use Rattle.static_fragment.proofs.Forests.{is_forest, own_ways, trees_as}
 use Rattle.static_fragment.proofs.recognising.recognise_up_to.Goals as goal
@@ -20,7 +20,7 @@ use Rattle.static_fragment.proofs.recognising.recognise_up_to.Goals as goal
 pub returns-in_err-units-clause-outside : goal.returns-in_err-units-clause-outside
 returns-in_err-units-clause-outside c = λ system views.
     let v = subst (λ (z : GtsParts). Views z system) (sym c.parts-parts.ensures.parts) views in
-    let d = numbers_of c.args.dropped.now in
+    let d = plain_event_numbers c.args.dropped.now in
     let order = c.args.order in
     let x = err_from_is_err_and c.from_residual.result c.from_residual.ensures.1 in
     if_err (IsRefusedUpTo order system d) c.from_residual.result _ (x.1 ∙ ap Err x.2)
@@ -29,7 +29,7 @@ returns-in_err-units-clause-outside c = λ system views.
 pub returns-in_err-kept-clause-outside : goal.returns-in_err-kept-clause-outside
 returns-in_err-kept-clause-outside c = λ system views.
     let v = subst (λ (z : GtsParts). Views z system) (sym c.parts-parts.ensures.parts) views in
-    let d = numbers_of c.args.dropped.now in
+    let d = plain_event_numbers c.args.dropped.now in
     let order = c.args.order in
     let u = c.in_ok-units.ensures.rules order system d (v, refl) in
     let x = err_from_is_err_and c.from_residual-in_err-kept.result c.from_residual-in_err-kept.ensures.1 in
@@ -39,11 +39,11 @@ returns-in_err-kept-clause-outside c = λ system views.
 pub returns-in_err-reaches-clause-outside : goal.returns-in_err-reaches-clause-outside
 returns-in_err-reaches-clause-outside c = λ system views.
     let v = subst (λ (z : GtsParts). Views z system) (sym c.parts-parts.ensures.parts) views in
-    let d = numbers_of c.args.dropped.now in
+    let d = plain_event_numbers c.args.dropped.now in
     let order = c.args.order in
     let u = c.in_ok-units.ensures.rules order system d (v, refl) in
     let p = c.parts-parts.result.now in
-    let w = subst (λ (z : List KeptWay). HasWays p z system d) (sym c.deref.ensures.value)
+    let w = subst (λ (z : List KeptWay). HasKeptWays p z system d) (sym c.deref.ensures.value)
     (c.in_ok-kept.ensures.rules order system d u) in
     let x = err_from_is_err_and c.from_residual-in_err-reaches.result c.from_residual-in_err-reaches.ensures.1 in
     if_err (IsRefusedUpTo order system d) c.from_residual-in_err-reaches.result _ (x.1 ∙ ap Err x.2)
@@ -52,11 +52,11 @@ returns-in_err-reaches-clause-outside c = λ system views.
 pub returns-in_err-sharing-clause-outside : goal.returns-in_err-sharing-clause-outside
 returns-in_err-sharing-clause-outside c = λ system views.
     let v = subst (λ (z : GtsParts). Views z system) (sym c.parts-parts.ensures.parts) views in
-    let d = numbers_of c.args.dropped.now in
+    let d = plain_event_numbers c.args.dropped.now in
     let order = c.args.order in
     let u = c.in_ok-units.ensures.rules order system d (v, refl) in
     let p = c.parts-parts.result.now in
-    let w = subst (λ (z : List KeptWay). HasWays p z system d) (sym c.deref.ensures.value)
+    let w = subst (λ (z : List KeptWay). HasKeptWays p z system d) (sym c.deref.ensures.value)
     (c.in_ok-kept.ensures.rules order system d u) in
     let r = c.in_ok-reaches.ensures.rules order system d w in
     let r5 = reaches_on system d 5 5 p c.in_ok-reaches.reaches.items c.deref-2.result.now r r.keeps
@@ -68,11 +68,11 @@ returns-in_err-sharing-clause-outside c = λ system views.
 pub returns-in_err-at_variable-clause-outside : goal.returns-in_err-at_variable-clause-outside
 returns-in_err-at_variable-clause-outside c = λ system views.
     let v = subst (λ (z : GtsParts). Views z system) (sym c.parts-parts.ensures.parts) views in
-    let d = numbers_of c.args.dropped.now in
+    let d = plain_event_numbers c.args.dropped.now in
     let order = c.args.order in
     let u = c.in_ok-units.ensures.rules order system d (v, refl) in
     let p = c.parts-parts.result.now in
-    let w = subst (λ (z : List KeptWay). HasWays p z system d) (sym c.deref.ensures.value)
+    let w = subst (λ (z : List KeptWay). HasKeptWays p z system d) (sym c.deref.ensures.value)
     (c.in_ok-kept.ensures.rules order system d u) in
     let r = c.in_ok-reaches.ensures.rules order system d w in
     let r5 = reaches_on system d 5 5 p c.in_ok-reaches.reaches.items c.deref-2.result.now r r.keeps
@@ -89,11 +89,11 @@ returns-in_err-at_variable-clause-outside c = λ system views.
 pub returns-in_err-judge_values-clause-outside : goal.returns-in_err-judge_values-clause-outside
 returns-in_err-judge_values-clause-outside c = λ system views.
     let v = subst (λ (z : GtsParts). Views z system) (sym c.parts-parts.ensures.parts) views in
-    let d = numbers_of c.args.dropped.now in
+    let d = plain_event_numbers c.args.dropped.now in
     let order = c.args.order in
     let u = c.in_ok-units.ensures.rules order system d (v, refl) in
     let p = c.parts-parts.result.now in
-    let w = subst (λ (z : List KeptWay). HasWays p z system d) (sym c.deref.ensures.value)
+    let w = subst (λ (z : List KeptWay). HasKeptWays p z system d) (sym c.deref.ensures.value)
     (c.in_ok-kept.ensures.rules order system d u) in
     let r = c.in_ok-reaches.ensures.rules order system d w in
     let r5 = reaches_on system d 5 5 p c.in_ok-reaches.reaches.items c.deref-2.result.now r r.keeps
@@ -103,7 +103,7 @@ returns-in_err-judge_values-clause-outside c = λ system views.
     c.deref-3.ensures.value in
     let r7 : HasReaches 7 p c.deref-3.result.now system d = judged6 system d order p c.deref-3.result.now r6
     c.least_again.result c.least_again.ensures (Ok _) c.in_ok-at_variable.ensures in
-    let seen : IsSeen 7 p system d = record { views = v; keeps = r7.keeps } in
+    let seen : IsSeenBelow 7 p system d = record { views = v; keeps = r7.keeps } in
     let x = err_from_is_err_and c.from_residual-in_err-judge_values.result c.from_residual-in_err-judge_values.ensures.1
     in
     if_err (IsRefusedUpTo order system d) c.from_residual-in_err-judge_values.result _ (x.1 ∙ ap Err x.2)
@@ -112,11 +112,11 @@ returns-in_err-judge_values-clause-outside c = λ system views.
 pub returns-in_err-at_whole-clause-outside : goal.returns-in_err-at_whole-clause-outside
 returns-in_err-at_whole-clause-outside c = λ system views.
     let v = subst (λ (z : GtsParts). Views z system) (sym c.parts-parts.ensures.parts) views in
-    let d = numbers_of c.args.dropped.now in
+    let d = plain_event_numbers c.args.dropped.now in
     let order = c.args.order in
     let u = c.in_ok-units.ensures.rules order system d (v, refl) in
     let p = c.parts-parts.result.now in
-    let w = subst (λ (z : List KeptWay). HasWays p z system d) (sym c.deref.ensures.value)
+    let w = subst (λ (z : List KeptWay). HasKeptWays p z system d) (sym c.deref.ensures.value)
     (c.in_ok-kept.ensures.rules order system d u) in
     let r = c.in_ok-reaches.ensures.rules order system d w in
     let r5 = reaches_on system d 5 5 p c.in_ok-reaches.reaches.items c.deref-2.result.now r r.keeps
@@ -126,7 +126,7 @@ returns-in_err-at_whole-clause-outside c = λ system views.
     c.deref-3.ensures.value in
     let r7 : HasReaches 7 p c.deref-3.result.now system d = judged6 system d order p c.deref-3.result.now r6
     c.least_again.result c.least_again.ensures (Ok _) c.in_ok-at_variable.ensures in
-    let seen : IsSeen 7 p system d = record { views = v; keeps = r7.keeps } in
+    let seen : IsSeenBelow 7 p system d = record { views = v; keeps = r7.keeps } in
     let n = c.in_ok-judge_values.ensures order system d seen in
     let s8 = sharing_on system d 6 8 c.in_ok-sharing.sharing s n.keeps in
     let x = err_from_is_err_and c.from_residual-in_err-at_whole.result c.from_residual-in_err-at_whole.ensures.1
@@ -145,11 +145,11 @@ forest-requires-clause-once c = subst (λ (z : List Reach). NoneAgain z)
 pub returns-clause-ok : goal.returns-clause-ok
 returns-clause-ok c = λ system views.
     let v = subst (λ (z : GtsParts). Views z system) (sym c.parts-parts.ensures.parts) views in
-    let d = numbers_of c.args.dropped.now in
+    let d = plain_event_numbers c.args.dropped.now in
     let order = c.args.order in
     let u = c.in_ok-units.ensures.rules order system d (v, refl) in
     let p = c.parts-parts.result.now in
-    let w = subst (λ (z : List KeptWay). HasWays p z system d) (sym c.deref.ensures.value)
+    let w = subst (λ (z : List KeptWay). HasKeptWays p z system d) (sym c.deref.ensures.value)
     (c.in_ok-kept.ensures.rules order system d u) in
     let r = c.in_ok-reaches.ensures.rules order system d w in
     let r5 = reaches_on system d 5 5 p c.in_ok-reaches.reaches.items c.deref-2.result.now r r.keeps
@@ -159,7 +159,7 @@ returns-clause-ok c = λ system views.
     c.deref-3.ensures.value in
     let r7 : HasReaches 7 p c.deref-3.result.now system d = judged6 system d order p c.deref-3.result.now r6
     c.least_again.result c.least_again.ensures (Ok _) c.in_ok-at_variable.ensures in
-    let seen : IsSeen 7 p system d = record { views = v; keeps = r7.keeps } in
+    let seen : IsSeenBelow 7 p system d = record { views = v; keeps = r7.keeps } in
     let n = c.in_ok-judge_values.ensures order system d seen in
     let s8 = sharing_on system d 6 8 c.in_ok-sharing.sharing s n.keeps in
     let all : KeepsUpTo order system d = events_judged system d order c.in_ok-sharing.sharing s8 c.len.result

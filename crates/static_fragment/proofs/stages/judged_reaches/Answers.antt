@@ -1,7 +1,7 @@
 use Rattle.std.proofs.Common.{List, Err, ◌∙◌, ap, subst}
 use Rattle.std.proofs.lemmas.Result.{err_from_is_err_and}
 use Rattle.mode_search.specs.declared.searching.Reach.{Reach}
-use Rattle.mode_search.specs.Events.{IsLeast}
+use Rattle.mode_search.specs.Events.{IsLeastNumber}
 use Rattle.mode_search.specs.Reaches.{IsWrongAt}
 use Rattle.static_fragment.proofs.Judging.{on_err, refused4, kept4}
 use Rattle.static_fragment.proofs.stages.judged_reaches.Goals as goal
@@ -10,7 +10,7 @@ pub returns-in_err-at_variable-clause-rules : goal.returns-in_err-at_variable-cl
 returns-in_err-at_variable-clause-rules c = λ order system dropped h.
     let r = err_from_is_err_and c.from_residual-in_err-at_variable.result c.from_residual-in_err-at_variable.ensures.1
     in
-    let wrong = subst (λ (z : List Reach). IsLeast (IsWrongAt z) c.least_wrong.result) c.deref.ensures.value
+    let wrong = subst (λ (z : List Reach). IsLeastNumber (IsWrongAt z) c.least_wrong.result) c.deref.ensures.value
     c.least_wrong.ensures in
     on_err _ _ c.from_residual-in_err-at_variable.result _ (r.1 ∙ ap Err r.2)
     (refused4 system dropped (record { ways = h.ways; are = c.in_ok-reaches.ensures }) h.keeps order
@@ -19,7 +19,7 @@ returns-in_err-at_variable-clause-rules c = λ order system dropped h.
 
 pub returns-clause-rules : goal.returns-clause-rules
 returns-clause-rules c = λ order system dropped h.
-    let wrong = subst (λ (z : List Reach). IsLeast (IsWrongAt z) c.least_wrong.result) c.deref.ensures.value
+    let wrong = subst (λ (z : List Reach). IsLeastNumber (IsWrongAt z) c.least_wrong.result) c.deref.ensures.value
     c.least_wrong.ensures in
     record {
       kept = c.args.kept.now;

@@ -1,7 +1,7 @@
 use Rattle.std.proofs.Common.{List, length, Err, ◌∙◌, ap, subst, sym, arith}
 use Rattle.std.proofs.lemmas.Result.{err_from_is_err_and}
 use Rattle.mode_search.specs.declared.listing.Live.{Live}
-use Rattle.mode_search.specs.Sharing.{AreWithin, IsSharing}
+use Rattle.mode_search.specs.Sharing.{HaveEventsWithin, IsSharing}
 use Rattle.static_fragment.proofs.Judging.{on_err, refused5, kept5}
 use Rattle.static_fragment.proofs.Forests.{all_apart, all_within}
 use Rattle.static_fragment.proofs.stages.judged_sharing.Goals as goal
@@ -10,7 +10,7 @@ pub live_edges-requires-clause-apart : goal.live_edges-requires-clause-apart
 live_edges-requires-clause-apart c = all_apart c.requires.found
 
 pub shared-requires : goal.shared-requires
-shared-requires c = subst (λ (z : List Live). AreWithin c.len.result z) (sym c.deref.ensures.value)
+shared-requires c = subst (λ (z : List Live). HaveEventsWithin c.len.result z) (sym c.deref.ensures.value)
     (all_within c.requires.found c.in_ok-live.live.items c.in_ok-live.ensures c.len.result
     (omega (arith, c.len.ensures, c.args.parts.now.events.ok.0)))
 

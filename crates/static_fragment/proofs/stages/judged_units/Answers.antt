@@ -1,6 +1,6 @@
 use Rattle.std.proofs.Common.{Some, None, refl, ap, arith}
 use Rattle.ar_firing.specs.Rules.{AtEvent, AtUnit}
-use Rattle.mode_search.specs.Events.{numbers_of}
+use Rattle.mode_search.specs.Events.{plain_event_numbers}
 use Rattle.static_fragment.specs.declared.faults.FragmentFault.TheVariants.{Outside}
 use Rattle.static_fragment.specs.declared.faults.Spot.TheVariants as spot
 use Rattle.static_fragment.proofs.Judging.{refused1, kept1, refused2, kept2, units_are, stateless_as}
@@ -14,7 +14,7 @@ pub returns-in-Some-first_stateless-clause-rules : goal.returns-in-Some-first_st
 returns-in-Some-first_stateless-clause-rules c = λ order system dropped h.
     let p = c.args.parts.now in
     let below = kept1 system dropped p h.0 None tt c.in_default.ensures tt in
-    let are = units_are p dropped (numbers_of c.args.dropped.now) c.len.result c.in_ok-marks.marks.items
+    let are = units_are p dropped (plain_event_numbers c.args.dropped.now) c.len.result c.in_ok-marks.marks.items
     c.deref.result.now c.in_ok-moving.moving.items c.in_ok-firsts.firsts.items
     h.1 (omega (arith, c.len.ensures, p.events.ok.0)) c.deref.ensures.value c.in_ok-marks.ensures c.in_ok-moving.ensures
     c.in_ok-firsts.ensures in
@@ -29,7 +29,7 @@ pub returns-clause-rules : goal.returns-clause-rules
 returns-clause-rules c = λ order system dropped h.
     let p = c.args.parts.now in
     let below = kept1 system dropped p h.0 None tt c.in_default.ensures tt in
-    let are = units_are p dropped (numbers_of c.args.dropped.now) c.len.result c.in_ok-marks.marks.items
+    let are = units_are p dropped (plain_event_numbers c.args.dropped.now) c.len.result c.in_ok-marks.marks.items
     c.deref.result.now c.in_ok-moving.moving.items c.in_ok-firsts.firsts.items
     h.1 (omega (arith, c.len.ensures, p.events.ok.0)) c.deref.ensures.value c.in_ok-marks.ensures c.in_ok-moving.ensures
     c.in_ok-firsts.ensures in

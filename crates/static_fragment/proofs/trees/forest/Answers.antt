@@ -5,7 +5,7 @@ use Rattle.ar_base.proofs.Standing.{stands_item, stands_get, stands_one}
 use Rattle.mode_trees.specs.declared.forests.Edge.{Edge}
 use Rattle.mode_trees.specs.declared.forests.ModeTree.{ModeTree}
 use Rattle.mode_search.specs.declared.searching.Reach.{Reach}
-use Rattle.mode_trees.specs.Below.{IsBelow}
+use Rattle.mode_trees.specs.Below.{AreEdgesBelow}
 use Rattle.static_fragment.specs.Trees.{AreTreesBelow, HasTree}
 use Rattle.static_fragment.proofs.Growing.{none_more, one_more}
 use Rattle.static_fragment.proofs.Forests.{all_once}
@@ -69,7 +69,7 @@ loop-n-preserved c =
           subst (λ (z : List ModeTree). AreTreesBelow p moving reaches (c.loop-n.n + 1) z)
           (sym (ap (λ (z : Vec ModeTree Global). z.items) w.trees-is ∙ w.in_ok-push.ensures.items))
           (one_more p moving reaches c.loop-n.n x st old c.loop-n.invariant r reach has tree w.new.ensures refl
-          (subst (λ (z : List Edge). IsBelow z x.value 0 w.in_ok-edges.edges.items)
+          (subst (λ (z : List Edge). AreEdgesBelow z x.value 0 w.in_ok-edges.edges.items)
           (w.deref.ensures.value ∙ ap (λ (z : Reach). z.edges.items) (sym w.index-reaches-n.is))
           w.in_ok-edges.ensures))
       | else-variable w ↦ elim w.else-variable.branch [

@@ -8,7 +8,7 @@ use Rattle.gts_core.specs.View.{net_of, IsWayAt}
 use Rattle.gts_core.specs.Readings.{IsTotal}
 use Rattle.gts_core.specs.declared.system.GtsParts.{GtsParts}
 use Rattle.gts_core.proofs.Tests.{answer_false}
-use Rattle.way_flags.specs.Ready.{IsReady, IsReceiveFault}
+use Rattle.way_flags.specs.Ready.{IsReadyWay, IsReceiveFault}
 use Rattle.flow_propagate.specs.NewValues.{AreNewValues, written}
 use Rattle.part_flags.specs.Parts.{flag_at}
 use Rattle.way_flags.specs.Ways.{AreFlags}
@@ -44,7 +44,7 @@ returns-in-Ok-clause-new c = subst (λ (z : GtsParts). AreNewValues z c.in-Ok.ne
 pub returns-in-Ok-clause-ready : goal.returns-in-Ok-clause-ready
 returns-in-Ok-clause-ready c = subst
     (λ (z : GtsParts). (w : Way ℕ) → IsWayAt z c.args.way.n w
-    → IsReady (net_of z) c.args.values.now w (written c.args.values.now c.in-Ok.new.items)) c.parts.ensures.parts
+    → IsReadyWay (net_of z) c.args.values.now w (written c.args.values.now c.in-Ok.new.items)) c.parts.ensures.parts
     c.in-Ok.ensures.received
 
 pub returns-in-Err-Clash-clause-fault : goal.returns-in-Err-Clash-clause-fault

@@ -2,7 +2,7 @@ use Rattle.std.proofs.Common.{◌≡◌, ◌≤◌, ℕ, Bool, List, map, subst,
 use Rattle.std.proofs.lemmas.List.{take_all}
 use Rattle.ar_meaning.specs.Numbered.{Joins}
 use Rattle.gts_core.specs.Bound.{event_part_of}
-use Rattle.sync_expand.specs.Planning.{Adds}
+use Rattle.sync_expand.specs.Planning.{AddsPlannedWays}
 use Rattle.sync_expand.specs.Counts.{choice_count}
 use Rattle.sync_expand.specs.Plans.{choices_by}
 use Rattle.sync_expand.proofs.Choosing.{choices_length}
@@ -34,5 +34,5 @@ returns c =
     let r = c.requires.room.room in
     let e = take_all c.loop-place.place (choices_by counts (map event_part_of c.args.parts.now))
     (omega (arith, n, l, r, c.loop-place-test.false)) in
-    subst (λ (cs : List (List (Bool × ℕ))). Adds c.args.event.n c.args.first (map Joins cs) c.args.plan.now.items
+    subst (λ (cs : List (List (Bool × ℕ))). AddsPlannedWays c.args.event.n c.args.first (map Joins cs) c.args.plan.now.items
     c.loop-place.plan.items) e c.loop-place.invariant

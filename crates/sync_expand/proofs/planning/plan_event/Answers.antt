@@ -1,7 +1,7 @@
 use Rattle.std.proofs.Common.{arith, ◌≡◌, ◌∷◌, [], ℕ, length, subst}
 use Rattle.ar_meaning.specs.Systems.{Transition}
 use Rattle.gts_core.specs.Bound.{member_of}
-use Rattle.sync_expand.specs.Planning.{Adds}
+use Rattle.sync_expand.specs.Planning.{AddsPlannedWays}
 use Rattle.sync_expand.specs.Plans.{bodies_by}
 use Rattle.sync_expand.proofs.Placed.{item_stands}
 use Rattle.sync_expand.proofs.Adding.{event_start, event_next, event_end, event_room}
@@ -27,7 +27,7 @@ loop-place-preserved c =
     let first : c.len-first.result ≡ length c.args.plan.now.items =
     omega (arith, c.args.plan.now.ok.0, c.len-first.ensures) in
     event_next _ _ _ _ _ _ _ _ _ s (omega arith) c.loop-place.invariant
-    (subst (λ (n : ℕ). Adds c.args.event.n n
+    (subst (λ (n : ℕ). AddsPlannedWays c.args.event.n n
     (bodies_by (λ (k : ℕ) (t : Transition ℕ). k) c.args.numbering.now.counts.items c.loop-place.place
     (member_of c.index-ways-place.result ∷ [])) c.loop-place.plan.items c.plan_way.new.plan.items) first
     c.in_ok-plan_way.ensures)

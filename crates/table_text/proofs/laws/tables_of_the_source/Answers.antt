@@ -1,7 +1,7 @@
 use Rattle.std.proofs.Common.{◌≡◌, ℕ, List, sym, ap, subst}
 use Rattle.ar_base.specs.Lists.{Stands}
 use Rattle.ar_base.proofs.Standing.{stands_map, one_here}
-use Rattle.typed_expr.specs.PairsInside.{turned}
+use Rattle.typed_expr.specs.PairsInside.{turned_pairs}
 use Rattle.typed_expr.specs.declared.expr.Expr.{Expr}
 use Rattle.ar_meaning.specs.Systems.{Net, System}
 use Rattle.ar_meaning.specs.FlatOf.{IsNumber, IsFlatOf}
@@ -28,7 +28,7 @@ returns-clause-table c = λ x p flat of views dropped f is n o stands wanted tab
       flat = flat;
       is_flat = flat_of;
       trees = trees;
-      is_forest = forest_there (turned (IsNumber things)) flat x.system (flat_back things x.system flat flat_of) dropped
+      is_forest = forest_there (turned_pairs (IsNumber things)) flat x.system (flat_back things x.system flat flat_of) dropped
           is;
       observed = numbered o.value;
       is_observed = subst (λ (z : List (Expr ℕ)). Stands z n (numbered o.value)) (sym views.observers)

@@ -6,7 +6,7 @@ use Rattle.ar_base.proofs.Standing.{one_here, stands_map, stands_item}
 use Rattle.ar_base.proofs.Items.{along_push}
 use Rattle.flow_blocks.specs.Table.{members_of}
 use Rattle.flow_blocks.specs.declared.graph.Block.{Block}
-use Rattle.tree_equations.specs.Blocks.{ArePlaced, ArePlacedBlocks, blocks_in}
+use Rattle.tree_equations.specs.Blocks.{StandAtPlaces, ArePlacedBlocks, blocks_in}
 use Rattle.tree_equations.proofs.index.numbered_blocks.Goals as goal
 
 pub loop-block-init : goal.loop-block-init
@@ -31,7 +31,7 @@ loop-block-preserved c =
     let i = c.loop-block.block-index in
     let b = c.block-item.result in
     let view : Block → List ℕ = λ (b : Block). b.members.items in
-    let placed = subst (λ (z : List ℕ). ArePlaced fs z c.in_ok-numbers.numbers.items) c.deref.ensures.value
+    let placed = subst (λ (z : List ℕ). StandAtPlaces fs z c.in_ok-numbers.numbers.items) c.deref.ensures.value
     c.in_ok-numbers.ensures in
     let more = ap members_of (take_more bs i b c.loop-block-test.true
     ∙ ap (λ (z : Block). take i bs ++ z ∷ []) (sym c.block-item.is)) ∙ map-append view (take i bs) (b ∷ []) in

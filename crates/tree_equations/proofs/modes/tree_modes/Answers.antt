@@ -7,7 +7,7 @@ use Rattle.eq_build.specs.Views.{gates_in}
 use Rattle.eq_build.proofs.Growing.{longer_on}
 use Rattle.eq_build.proofs.Places.{item_next}
 use Rattle.eq_build.proofs.Stopping.{stops_up, entries_passed_on}
-use Rattle.mode_trees.specs.Views.{row_of}
+use Rattle.mode_trees.specs.Views.{edge_row}
 use Rattle.mode_trees.specs.declared.forests.Edge.{Edge}
 use Rattle.table_steps.specs.Steps.{modes_of, entered, not_left}
 use Rattle.tree_equations.specs.Answers.{edges_in, tree_in, plain}
@@ -46,7 +46,7 @@ returns-in_err-operand c =
     entries_passed_on (modes_of (tree_in tree) g) c.from_residual-in_err-operand.result fault
     c.mode-in-loop-edge.new.gates.items c.from_residual-in_err-operand.ensures.1
     (stops_up fault
-    (λ l. edge_stops most_gates all (row_of plain e) (edges_in (drop (suc i) es)) h (modes_of (tree_in tree) g).gates
+    (λ l. edge_stops most_gates all (edge_row plain e) (edges_in (drop (suc i) es)) h (modes_of (tree_in tree) g).gates
     same
     (subst (λ (z : List Edge). most_gates < length
     (all_of h (EventIs e.event.n true ∷ not_left e.to (edges_in z))).gates)

@@ -2,7 +2,7 @@ use Rattle.std.proofs.Common.{get_or, subst}
 use Rattle.std.proofs.lemmas.List.{get_or_default}
 use Rattle.ar_base.proofs.Standing.{stands_within, stands_one, stands_item}
 use Rattle.domains.specs.Domains.{values_of}
-use Rattle.eq_build.specs.Views.{gates_in, row_at, Stops}
+use Rattle.eq_build.specs.Views.{gates_in, row_at, StopsBuilding}
 use Rattle.gts_core.specs.View.{assign_of}
 use Rattle.gts_core.specs.declared.system.Assign.{Assign}
 use Rattle.table_steps.specs.Steps.{Gives_target}
@@ -71,7 +71,7 @@ returns-in_err-list c = λ picked a.
     (gates_in c.args.gates.now.items) (gates_in c.loop-number.gates.items) picked i at.0 c.loop-number.lists.items
     c.from_residual.result c.in_err-list.field-0.0 c.given.new.gates.items at.2
     (c.loop-number.invariant.so_far picked a) c.from_residual.ensures.1
-    (subst (λ (z : Assign). Stops c.in_err-list.field-0.0 (TooMany (λ y k. Gives_target read domain
+    (subst (λ (z : Assign). StopsBuilding c.in_err-list.field-0.0 (TooMany (λ y k. Gives_target read domain
     (gates_in c.loop-number.gates.items) (assign_of z) y k))) same c.in_err-list.ensures)
 
 pub returns : goal.returns

@@ -4,7 +4,7 @@ use Rattle.ar_base.specs.Lists.{Stands}
 use Rattle.ar_base.proofs.Standing.{stands_within, stands_one, stands_item}
 use Rattle.ar_meaning.specs.Systems as s
 use Rattle.eq_core.specs.Views.{operand_of}
-use Rattle.eq_build.specs.Views.{gates_in, row_at, Stops}
+use Rattle.eq_build.specs.Views.{gates_in, row_at, StopsBuilding}
 use Rattle.gts_core.specs.View.{assign_of, variable_of}
 use Rattle.gts_core.specs.declared.system.Variable.{Variable}
 use Rattle.gts_core.specs.declared.system.Assign.{Assign}
@@ -129,7 +129,7 @@ returns-in_err-operand c = λ pairs along.
     (each_stops as_is operand_of (Sees_outside read) (out_one read) (out_more read) (gates_in c.args.gates.now.items) h
     pairs i at.0 c.loop-k.seen.items c.from_residual.result f c.outside.new.gates.items at.2
     (c.loop-k.invariant.so_far pairs along) c.from_residual.ensures.1
-    (subst (λ (z : s.Variable ℕ × s.Assign ℕ). Stops f (TooMany (λ y k. Sees_outside read h z y k))) (sym pair) fails))
+    (subst (λ (z : s.Variable ℕ × s.Assign ℕ). StopsBuilding f (TooMany (λ y k. Sees_outside read h z y k))) (sym pair) fails))
 
 pub returns : goal.returns
 returns c = λ pairs along.

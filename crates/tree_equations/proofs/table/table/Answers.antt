@@ -36,7 +36,7 @@ use Rattle.tree_equations.proofs.table.table.Goals as goal
 -- the blocks of the plan, by the numbers of the flows that the index has
 blocks_here : (p q : GtsParts) → p ≡ q → (flows read : List ℕ) → read ≡ flows
     → AreFlows p.variables.items flows (flows_from 0 (net_of p).variables) → (classes kept : List Block)
-    → kept ≡ classes → plan.AreBlocks q (members_of classes) → (found : List (List ℕ))
+    → kept ≡ classes → plan.AreFlowClasses q (members_of classes) → (found : List (List ℕ))
     → ArePlacedBlocks read (members_of kept) found → AreBlocks (net_of q) found
 blocks_here p q same flows read i are classes kept j planned found placed =
     are_blocks q flows (members_of classes) found

@@ -2,7 +2,7 @@ use Rattle.std.proofs.Common.{◌≡◌, ◌<◌, ℕ, List, length, get_or, Ok,
 use Rattle.std.proofs.lemmas.List.{get_or_default}
 use Rattle.ar_base.proofs.Standing.{stands_within, stands_get, stands_one, one_here, stands_item}
 use Rattle.ar_meaning.specs.Systems as s
-use Rattle.eq_build.specs.Views.{gates_in, row_at, entries_in, Stops, MakesEntries}
+use Rattle.eq_build.specs.Views.{gates_in, row_at, entries_in, StopsBuilding, MakesEntries}
 use Rattle.eq_build.specs.Entries as e
 use Rattle.eq_build.proofs.Reading.{row_here}
 use Rattle.gts_core.specs.View.{variables_from, variable_of}
@@ -113,7 +113,7 @@ returns-in_err-row c =
     (each_stops as_is row_in (Totals_of read) (total_one read) (total_more read) (gates_in c.args.gates.now.items) h
     flows i at.0 c.loop-n.totals.items c.from_residual.result f c.total.new.gates.items at.2 c.loop-n.invariant.so_far
     c.from_residual.ensures.1
-    (subst (λ (z : ℕ × s.Variable ℕ). Stops f (TooMany (λ y j. Totals_of read h z y j))) (sym pair) fails))
+    (subst (λ (z : ℕ × s.Variable ℕ). StopsBuilding f (TooMany (λ y j. Totals_of read h z y j))) (sym pair) fails))
 
 pub returns : goal.returns
 returns c =

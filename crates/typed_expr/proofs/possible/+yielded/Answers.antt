@@ -5,7 +5,7 @@ use Rattle.domains.specs.declared.Value.{Value}
 use Rattle.domains.specs.declared.Value.TheVariants.{Truth}
 use Rattle.typed_expr.specs.Sets.{Gathers}
 use Rattle.typed_expr.specs.YieldsInside.{facts_of}
-use Rattle.typed_expr.specs.Evaluating.{Evaluates, compared, right_stopped, Tells, Tallies, Steps, stepped, operand_stopped, Folds, Sums, Chooses, Joins, SomeRelated, IsNext}
+use Rattle.typed_expr.specs.Evaluating.{Evaluates, compared, right_stopped, TellsAnswer, Tallies, Steps, stepped, operand_stopped, Folds, Sums, Chooses, Joins, SomeRelated, IsNextOperand}
 use Rattle.typed_expr.specs.declared.expr.Expr.{Expr, out-Expr}
 use Rattle.typed_expr.specs.declared.expr.Expr as plain
 use Rattle.typed_expr.specs.declared.value_set.Stop.{Stop}
@@ -173,7 +173,7 @@ tally-returns-then-is_none g t c =
 told-of-facts : {V : Type 0} (values_of : V → List Value) (most : Option ℕ) (e : Expr V) (x : V) (values : List Value)
     (b other same : Bool) → is_some most ≡ false → e ≡ plain.Variable x → values ≡ values_of x
     → IsTrue other ↔ Contains values (Truth (not b)) → IsTrue same ↔ Contains values (Truth b)
-    → Tells (facts_of values_of) most b (Ok (other, same)) (out-Expr V e)
+    → TellsAnswer (facts_of values_of) most b (Ok (other, same)) (out-Expr V e)
 told-of-facts {V} values_of None e x values b other same none is at p q =
     let facts = facts_of values_of in
     loop.tell-of-set facts None b other same values (out-Expr V e)
@@ -444,7 +444,7 @@ pub truths-returns-in_err-set : goal.truths-returns-in_err-set
 truths-returns-in_err-set g t c =
     let facts = facts_of (g.E.Env.facts_at c.args.env.now) in
     err-same
-    (λ (r : Result (Bool × Bool) Stop). Tells facts c.args.most c.args.b r (out-Expr g.row.V.Denot c.args.e.now))
+    (λ (r : Result (Bool × Bool) Stop). TellsAnswer facts c.args.most c.args.b r (out-Expr g.row.V.Denot c.args.e.now))
     c.from_residual.result c.in_err-set.field-0.0 c.from_residual.ensures.1 c.in_err-set.ensures
 
 pub truths-returns : goal.truths-returns
@@ -584,11 +584,11 @@ with_operand-returns g t c =
     let facts = facts_of (g.E.Env.facts_at c.args.env.now) in
     let step1 =
     subst
-    (λ (l : List Value). Gathers c.args.most c.stepped.result (IsNext c.args.step c.args.first l c.values-2.result.now))
+    (λ (l : List Value). Gathers c.args.most c.stepped.result (IsNextOperand c.args.step c.args.first l c.values-2.result.now))
     c.values.ensures.values c.stepped.ensures in
     let step2 =
     subst
-    (λ (l : List Value). Gathers c.args.most c.stepped.result (IsNext c.args.step c.args.first c.args.so_far l))
+    (λ (l : List Value). Gathers c.args.most c.stepped.result (IsNextOperand c.args.step c.args.first c.args.so_far l))
     c.values-2.ensures.values step1 in
     stepped {values = c.in_ok-set.set} c.in_ok-set.ensures step2
 

@@ -2,7 +2,7 @@ use Rattle.std.proofs.Common.{List, Result, get_or, refl, false}
 use Rattle.domains.specs.declared.Value.{Value}
 use Rattle.domains.specs.declared.Value.TheVariants.{Truth}
 use Rattle.typed_expr.specs.Sets.{Gathers}
-use Rattle.typed_expr.specs.Evaluating.{IsNext}
+use Rattle.typed_expr.specs.Evaluating.{IsNextOperand}
 use Rattle.typed_expr.specs.declared.value_set.Stop.{Stop}
 use Rattle.typed_expr.proofs.Gathering.{err-same, numbers-more, numbers-refused}
 use Rattle.typed_expr.proofs.sets.few_stepped.Goals as goal
@@ -11,7 +11,7 @@ pub returns-in_err-more : goal.returns-in_err-more
 returns-in_err-more c =
     err-same
     (λ (r : Result (List Value) Stop). Gathers c.args.most r
-    (IsNext c.args.step c.args.first c.args.numbers.now c.args.values.now))
+    (IsNextOperand c.args.step c.args.first c.args.numbers.now c.args.values.now))
     c.from_residual.result c.in_err-more.field-0.0 c.from_residual.ensures.1
     (numbers-refused c.args.most c.args.step c.args.first c.args.numbers.now c.args.values.now c.loop-n.set
     c.loop-n.n-index (Truth false)

@@ -1,13 +1,13 @@
 use Rattle.std.proofs.Common.{List, Contains, subst}
 use Rattle.domains.specs.declared.Value.{Value}
 use Rattle.typed_expr.specs.Sets.{Gathers}
-use Rattle.typed_expr.specs.Evaluating.{IsNext}
+use Rattle.typed_expr.specs.Evaluating.{IsNextOperand}
 use Rattle.typed_expr.proofs.Gathering.{gathered-exactly}
 use Rattle.typed_expr.proofs.sets.stepped.Goals as goal
 
 pub returns : goal.returns
 returns c =
     gathered-exactly c.args.most c.in_ok-all.all.items c.gathered.result
-    (IsNext c.args.step c.args.first c.args.numbers.now c.args.values.now) c.in_ok-all.ensures
+    (IsNextOperand c.args.step c.args.first c.args.numbers.now c.args.values.now) c.in_ok-all.ensures
     (subst (λ (l : List Value). Gathers c.args.most c.gathered.result (Contains l)) c.deref.ensures.value
     c.gathered.ensures)

@@ -1,7 +1,7 @@
 use Rattle.std.proofs.Common.{List, [], ◌∷◌, Result, ◌⊎◌, Contains}
 use Rattle.domains.specs.declared.Value.{Value}
 use Rattle.typed_expr.specs.Sets.{Gathers}
-use Rattle.typed_expr.specs.Evaluating.{IsNext}
+use Rattle.typed_expr.specs.Evaluating.{IsNextOperand}
 use Rattle.typed_expr.specs.declared.value_set.Stop.{Stop}
 use Rattle.typed_expr.proofs.Gathering.{err-same, stepped-more, stepped-refused, stepped-end}
 use Rattle.typed_expr.proofs.sets.stepped_from.Goals as goal
@@ -10,7 +10,7 @@ pub returns-in_err-put : goal.returns-in_err-put
 returns-in_err-put c =
     err-same
     (λ (r : Result (List Value) Stop). Gathers c.args.most r
-    (λ v. Contains c.args.set v ⊎ IsNext c.args.step c.args.first (c.args.n ∷ []) c.args.values.now v))
+    (λ v. Contains c.args.set v ⊎ IsNextOperand c.args.step c.args.first (c.args.n ∷ []) c.args.values.now v))
     c.from_residual.result c.in_err-put.field-0.0 c.from_residual.ensures.1
     (stepped-refused c.args.most c.args.step c.args.first c.args.n c.next_value.result c.args.set c.loop-v.set
     c.args.values.now c.loop-v.v-index _ c.in_err-put.field-0.0 c.loop-v-test.true

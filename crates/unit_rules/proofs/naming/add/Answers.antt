@@ -1,12 +1,12 @@
 use Rattle.std.proofs.Common.{List, [], ◌∷◌, refl, sym, subst}
-use Rattle.unit_rules.specs.Naming.{Entry, AddsNames, none, one_more, added, nothing}
+use Rattle.unit_rules.specs.Naming.{NameEntry, AddsNames, none, one_more, added, nothing}
 use Rattle.unit_rules.proofs.Adding.{not_nothing, not_loops}
 use Rattle.unit_rules.proofs.naming.add.Goals as goal
 
 pub returns-in_ok-push-in-Unit : goal.returns-in_ok-push-in-Unit
 returns-in_ok-push-in-Unit c = λ m units u a s.
     let l = c.in-Unit.ensures m units u a s in
-    subst (λ (new : List Entry). AddsNames m units u c.args.entries.now.items (c.args.name.n ∷ []) new)
+    subst (λ (new : List NameEntry). AddsNames m units u c.args.entries.now.items (c.args.name.n ∷ []) new)
     (sym c.in_ok-push-in-Unit.ensures.items) (one_more none (added (c.args.name, c.in-Unit.found) l.0 refl l.1 l.2))
 
 pub returns-in-Nothing : goal.returns-in-Nothing

@@ -5,13 +5,13 @@ use Rattle.ar_base.proofs.Standing.{stands_get}
 use Rattle.class_table.specs.Members.{owned_at}
 use Rattle.class_table.specs.TablesInside.{site_of}
 use Rattle.class_table.proofs.Taken.{map_next}
-use Rattle.unit_rules.specs.Naming.{Entry, AddsNames, none, alias_names, names_if, names_at_sites}
+use Rattle.unit_rules.specs.Naming.{NameEntry, AddsNames, none, alias_names, names_if, names_at_sites}
 use Rattle.unit_rules.proofs.Adding.{adds_more, sites_next}
 use Rattle.unit_rules.proofs.naming.aliases_of.Goals as goal
 use Rattle.unit_rules.proofs.naming.aliases_of.Goals.{in-Some+in_ok-add_alias, in_default}
 
 pub loop-site-init : goal.loop-site-init
-loop-site-init c = λ d m units u k a s. subst (λ (new : List Entry). AddsNames m units u [] [] new)
+loop-site-init c = λ d m units u k a s. subst (λ (new : List NameEntry). AddsNames m units u [] [] new)
     (sym c.new-aliases.ensures.items) none
 
 pub loop-site-preserved : goal.loop-site-preserved

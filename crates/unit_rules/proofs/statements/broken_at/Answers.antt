@@ -2,13 +2,13 @@ use Rattle.std.proofs.Common.{◌≡◌, Option, sym, subst, true, false, rules}
 use Rattle.ar_base.specs.declared.places.Place.{Place}
 use Rattle.class_table.specs.Earliest.{IsEarliest}
 use Rattle.hierarchy.specs.Walks.{Reaches, Nothing, Loops}
-use Rattle.unit_rules.specs.Naming.{EndsSo, broken_so, statement_of}
+use Rattle.unit_rules.specs.Naming.{EndsWalk, broken_so, statement_of}
 use Rattle.unit_rules.proofs.Ending.{ends_none, ends_here, ends_other, broken_reaches, looping_not_nothing, nothing_not_looping}
 use Rattle.unit_rules.proofs.statements.broken_at.Goals as goal
 
 pub returns-in_err-path : goal.returns-in_err-path
 returns-in_err-path c = λ m units u a s.
-    subst (λ (r : Option Place). IsEarliest (EndsSo m u (broken_so c.args.looping) (statement_of c.args.owned.now)) r)
+    subst (λ (r : Option Place). IsEarliest (EndsWalk m u (broken_so c.args.looping) (statement_of c.args.owned.now)) r)
     (sym c.from_residual.ensures) (ends_none _ (sym c.in_err-path.ensures))
 
 pub returns-in-Unit : goal.returns-in-Unit

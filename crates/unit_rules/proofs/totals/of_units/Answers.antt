@@ -6,7 +6,7 @@ use Rattle.class_table.proofs.Taken.{item_stands}
 use Rattle.hierarchy.specs.declared.outline.Outline.{Outline}
 use Rattle.hierarchy.specs.Units.{UnitPath, names_at}
 use Rattle.unit_rules.specs.Sizes.{tree_nodes}
-use Rattle.unit_rules.specs.Counting.{AreAt, AreCounts}
+use Rattle.unit_rules.specs.Counting.{AreAt, AreMemberCounts}
 use Rattle.unit_rules.proofs.Joined.{at_that_body, no_body, units_next}
 use Rattle.unit_rules.proofs.totals.of_units.Goals as goal
 use Rattle.unit_rules.proofs.totals.of_units.Goals.{in-None, in-Some}
@@ -36,5 +36,5 @@ pub returns : goal.returns
 returns c = λ m units classes h bodies.
     let n = along_length units c.args.outlines.now h.along in
     let e = take_all c.loop-outline.outline-index units (omega arith) in
-    subst (λ (us : List UnitPath). AreCounts (flat_map (names_at m) us) (tree_nodes m us) c.loop-outline.total) e
+    subst (λ (us : List UnitPath). AreMemberCounts (flat_map (names_at m) us) (tree_nodes m us) c.loop-outline.total) e
     (c.loop-outline.invariant m units classes h bodies)

@@ -3,7 +3,7 @@ use Rattle.ar_base.specs.Numbers.{NameId}
 use Rattle.hierarchy.specs.Models.{RootedModel}
 use Rattle.hierarchy.specs.Units.{UnitPath, kind_at, start_of, numbers}
 use Rattle.unit_walks.specs.Forms.{IsFormsFor, form_at}
-use Rattle.unit_walks.specs.Tables.{paths_of, StandsIf, IsTable}
+use Rattle.unit_walks.specs.Tables.{table_paths, StandsIf, IsWalkTable}
 use Rattle.unit_walks.specs.declared.forms.Forms.{Forms}
 use Rattle.unit_walks.specs.declared.tables.Table.{Table}
 use Rattle.unit_walks.specs.declared.tables.Met.{Met}
@@ -22,7 +22,7 @@ begins m n u (x ∷ xs) first e ends =
 
 -- names of which the first is nothing in the unit where they begin
 nowhere : (m : RootedModel) (forms : Forms) (t : Table) (at : ℕ) (there : Met) (first : NameId) (names : List NameId)
-    (o : Option UnitPath) → IsFormsFor m forms → IsTable m [] t → StandsIf (paths_of t) (Some at) o
+    (o : Option UnitPath) → IsFormsFor m forms → IsWalkTable m [] t → StandsIf (table_paths t) (Some at) o
     → Some there ≡ slice_get t.units.items at → None ≡ form_at forms there.body.n first.n
     → Some first ≡ slice_get names 0 → (h : ℕ) × NamesEnd m h o (numbers names) None
 nowhere m forms t at there first names None f k s e g h = absurd s
@@ -33,8 +33,8 @@ nowhere m forms t at there first names (Some v) f k s e g h =
 pub returns-in-None : goal.returns-in-None
 returns-in-None c = λ e m u x f t s kind.
     let path = c.args.path.now in
-    let start : StandsIf (paths_of c.args.table.now) (Some c.in-Some.start) (start_of path.start u) =
-    subst (λ o. StandsIf (paths_of c.args.table.now) o (start_of path.start u)) c.in-Some.is
+    let start : StandsIf (table_paths c.args.table.now) (Some c.in-Some.start) (start_of path.start u) =
+    subst (λ o. StandsIf (table_paths c.args.table.now) o (start_of path.start u)) c.in-Some.is
     (c.start.ensures m [] u t s) in
     let ends = nowhere m c.args.forms.now c.args.table.now c.in-Some.start c.in-Some-unit.there c.in-Some-first.first.now
     path.names.items (start_of path.start u) f t start c.in-Some-unit.ensures c.in-None.ensures

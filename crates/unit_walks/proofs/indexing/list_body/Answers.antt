@@ -5,7 +5,7 @@ use Rattle.ar_base.specs.Lists.{Along, none}
 use Rattle.ar_base.specs.Numbers.{BodyId}
 use Rattle.class_table.specs.Members.{named_at, names_of, owned_at}
 use Rattle.class_table.specs.TablesInside.{site_of}
-use Rattle.unit_walks.specs.Forms.{IsUnitName, AddsNames, only_units}
+use Rattle.unit_walks.specs.Forms.{IsUnitName, AddsUnitNames, only_units}
 use Rattle.unit_walks.proofs.NameLists.{site_added}
 use Rattle.unit_walks.proofs.indexing.list_body.Goals as goal
 use Rattle.unit_walks.proofs.indexing.list_body.Goals.{in-Some+in_ok-add_member, in_default}
@@ -14,7 +14,7 @@ pub loop-site-preserved : goal.loop-site-preserved
 loop-site-preserved c = λ d k shown.
     let first : BodyId × ℕ = (record { n = 0; of = record {} }, 0) in
     let site = site_of (get_or c.args.all.now c.loop-site.site-index first) in
-    let more : AddsNames (only_units (names_of d site (owned_at d site))) c.loop-site.list.items
+    let more : AddsUnitNames (only_units (names_of d site (owned_at d site))) c.loop-site.list.items
     c.match-owned_at.list.items =
     elim c.match-owned_at.branch [
       | in-Some+in_ok-add_member w ↦ rw (← w.in-Some.ensures d shown, w.list-is) (w.in_ok-add_member.ensures d k)

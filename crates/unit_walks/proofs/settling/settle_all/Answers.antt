@@ -2,7 +2,7 @@ use Rattle.std.proofs.Common.{ap, arith}
 use Rattle.std.specs.Map.{lookup}
 use Rattle.ar_base.proofs.Standing.{along_length}
 use Rattle.unit_walks.specs.Forms.{same_pair}
-use Rattle.unit_walks.specs.Tables.{paths_of}
+use Rattle.unit_walks.specs.Tables.{table_paths}
 use Rattle.unit_walks.proofs.Outcomes.{settling_start, settled_none, settled_step, outcomes}
 use Rattle.unit_walks.proofs.settling.settle_all.Goals as goal
 
@@ -13,7 +13,7 @@ loop-place-init c = λ m units f are t d. settling_start m units 0 0 c.args.tabl
 pub loop-place-preserved : goal.loop-place-preserved
 loop-place-preserved c = λ m units f are t d.
     let w = c.loop-place.invariant m units f are t d in
-    let children = c.in_ok-children.ensures m units (paths_of c.args.table.now) f.names are d in
+    let children = c.in_ok-children.ensures m units (table_paths c.args.table.now) f.names are d in
     settled_step m units c.args.table.now c.loop-place.table c.settle_unit.new.table c.args.nodes.now c.loop-place.place
     c.new-at.result.n _ c.loop-place.walks c.settle_unit.new.walks c.loop-place-test.true c.new-at.ensures d
     (λ u p b q s. c.in_ok-settle_unit.ensures m units u f are w.run.table p b q children s) w

@@ -1,7 +1,7 @@
 use Rattle.std.proofs.Common.{[], sym, arith}
 use Rattle.ar_base.proofs.Standing.{one_here}
 use Rattle.class_table.proofs.MemberNames.{none_of}
-use Rattle.unit_walks.specs.Settling.{Keeps}
+use Rattle.unit_walks.specs.Settling.{KeepsAnswer}
 use Rattle.unit_walks.proofs.TableSteps.{pair_apart}
 use Rattle.unit_walks.proofs.Outcomes.{led_known, settling_start, settling_more, settles_unit}
 use Rattle.unit_walks.proofs.Fronts.{name_there, names_length}
@@ -22,7 +22,7 @@ loop-named-preserved c = λ m units u f are t p b q a s.
     c.led_by-led.result (c.in_ok-known.ensures m u f w.run.table stands) stands
     (λ k d. c.led_by-led.ensures m units c.args.node.unit x u f.names are k a (one_here units c.args.at.n u q) d) in
     let h = c.in_ok-insert.ensures.updates in
-    let keeps : Keeps c.loop-named.walks (record { led = c.insert.new.self }) c.args.at.n x c.led_by-led.result = record {
+    let keeps : KeepsAnswer c.loop-named.walks (record { led = c.insert.new.self }) c.args.at.n x c.led_by-led.result = record {
       here = h.1;
       other = λ k y n. h.2 (k, y) (pair_apart c.args.at.n x k y n);
     } in

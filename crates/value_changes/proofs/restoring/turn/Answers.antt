@@ -2,7 +2,7 @@ use Rattle.std.proofs.Common.{◌≡◌, ◌+◌, ◌<◌, ◌≤◌, ◌++◌, 
 use Rattle.std.proofs.lemmas.List.{take_more, set_past}
 use Rattle.ar_base.specs.Numbers.{VarId}
 use Rattle.ar_base.proofs.Standing.{stands_item}
-use Rattle.value_changes.specs.Restoring.{mark_at, turned}
+use Rattle.value_changes.specs.Restoring.{mark_at, marks_turned}
 use Rattle.value_changes.proofs.Turns.{flip, turned_last}
 use Rattle.value_changes.proofs.restoring.turn.Goals as goal
 use Rattle.value_changes.proofs.restoring.turn.Goals.{then-n-len, else-n-len}
@@ -29,9 +29,9 @@ loop-variable-preserved c =
           ap (λ (z : Vec Bool Global). z.items) h.marks-is ∙ sym (set_past old x.n (not (mark_at old x.n)) past)
     ] in
     one ∙ ap (λ (z : List Bool). flip z x.n) c.loop-variable.invariant
-    ∙ sym (ap (turned first) more ∙ turned_last first (take i xs) x)
+    ∙ sym (ap (marks_turned first) more ∙ turned_last first (take i xs) x)
 
 pub returns : goal.returns
 returns c = c.loop-variable.invariant
-    ∙ ap (turned c.args.marks.now.items)
+    ∙ ap (marks_turned c.args.marks.now.items)
     (take_all c.loop-variable.variable-index c.args.variables.now c.loop-variable-test.false)

@@ -4,7 +4,7 @@ use Rattle.ar_base.specs.Numbers.{WayId}
 use Rattle.ar_base.proofs.Truths.{not_equal}
 use Rattle.part_flags.specs.Parts.{flag_at}
 use Rattle.way_flags.specs.Ways.{can_by}
-use Rattle.way_flags.specs.Renewing.{AreSettled, AreTurned, AreLooked, WaitsAt}
+use Rattle.way_flags.specs.Renewing.{AreFlagsSettled, AreTurned, AreLooked, WaitsAt}
 use Rattle.way_flags.proofs.Lists.{read_stands}
 use Rattle.way_flags.proofs.Turned.{flip, turned_more}
 use Rattle.way_flags.proofs.Settling.{looked_still, looked_turned, same_flag, within_order, here_way, behind_still, behind_more}
@@ -44,7 +44,7 @@ returns-then-now-is_set-clause-settled c =
     looked_still p c.requires.sound ix c.requires.index c.args.values.now id.n c.args.place way c.args.waiting.now can
     placed st e c.requires.settled
 
-both : (c : goal.After-turn_one) → AreSettled c.args.parts.now c.args.index.now.places.items c.args.values.now
+both : (c : goal.After-turn_one) → AreFlagsSettled c.args.parts.now c.args.index.now.places.items c.args.values.now
     c.add_above.new.waiting c.turn_one.new.flags.items
     × ((q : _) → WaitsAt c.add_above.new.waiting q → c.args.place < q)
 both c =
@@ -66,7 +66,7 @@ both c =
     let r = looked_turned p c.requires.sound ix c.requires.index c.args.values.now id.n c.args.place way
     c.args.waiting.now c.add_above.new.waiting can placed st differs c.in_ok-add_above.ensures
     c.requires.settled in (
-      subst (λ (z : List Bool). AreSettled p ix.places.items c.args.values.now c.add_above.new.waiting z)
+      subst (λ (z : List Bool). AreFlagsSettled p ix.places.items c.args.values.now c.add_above.new.waiting z)
           (sym c.turn_one.ensures) r.0,
       r.1,
     )

@@ -1,7 +1,7 @@
 use Rattle.std.proofs.Common.{◌≡◌, ◌+◌, ◌∙◌, true, false, Bool, List, sym, ap, subst, arith, get_or}
 use Rattle.ar_base.proofs.Standing.{stands_get}
 use Rattle.part_flags.specs.Parts.{flag_at}
-use Rattle.way_flags.specs.Ways.{IsPlacing, Keeps, ArePlaced}
+use Rattle.way_flags.specs.Ways.{IsPlacing, KeepsMarks, ArePartsPlaced}
 use Rattle.way_flags.specs.declared.order.Placing.{Placing}
 use Rattle.way_flags.proofs.Heights.{part_low}
 use Rattle.way_flags.proofs.Placing.{placed_more, keeps_on, keeps_same, each_set}
@@ -25,8 +25,8 @@ place_parts-loop-way-preserved t c =
       | place_parts-then-not-is_set+in_ok-place w ↦
           (let new = w.place.new.placing.placed.items in
           let e = w.in_ok-place.ensures in
-          subst (λ (z : Placing). IsPlacing c.args.parts.now z.order.items z.placed.items × Keeps first z.placed.items
-          × ArePlaced z.placed.items ways (i + 1)) (sym w.placing-is) (
+          subst (λ (z : Placing). IsPlacing c.args.parts.now z.order.items z.placed.items × KeepsMarks first z.placed.items
+          × ArePartsPlaced z.placed.items ways (i + 1)) (sym w.placing-is) (
             e.order,
             keeps_on first mid new c.loop-way.invariant.1 e.keeps,
             placed_more first mid new ways i _
@@ -34,8 +34,8 @@ place_parts-loop-way-preserved t c =
           ))
       | place_parts-else-not-is_set w ↦
           (let set : flag_at mid (get_or ways i (false, record { n = 0; of = record {} })).1.n ≡ true = ap (λ (z : List Bool). flag_at z (get_or ways i (false, record { n = 0; of = record {} })).1.n) (sym c.deref.ensures.value) ∙ sym c.is_set.ensures ∙ w.if-not-is_set.false in
-          subst (λ (z : Placing). IsPlacing c.args.parts.now z.order.items z.placed.items × Keeps first z.placed.items
-          × ArePlaced z.placed.items ways (i + 1)) (sym w.placing-is) (
+          subst (λ (z : Placing). IsPlacing c.args.parts.now z.order.items z.placed.items × KeepsMarks first z.placed.items
+          × ArePartsPlaced z.placed.items ways (i + 1)) (sym w.placing-is) (
             c.loop-way.invariant.0,
             c.loop-way.invariant.1,
             placed_more first mid mid ways i _

@@ -1,5 +1,5 @@
 use Rattle.std.proofs.Common.{◌+◌, ◌*◌}
-use Rattle.way_flags.specs.Ways.{IsPlacing, Keeps, ArePlaced}
+use Rattle.way_flags.specs.Ways.{IsPlacing, KeepsMarks, ArePartsPlaced}
 use Rattle.way_flags.proofs.order.+place.Given as goal
 
 abbrev pub decreases-place : goal.decreases-place
@@ -11,5 +11,5 @@ decreases-place_parts l = 2 * l.left + 1
 abbrev pub invariant-place_parts-loop-way : goal.invariant-place_parts-loop-way
 invariant-place_parts-loop-way l =
     IsPlacing l.parts l.placing.order.items l.placing.placed.items
-    × Keeps l.initial.placing.placed.items l.placing.placed.items
-    × ArePlaced l.placing.placed.items l.ways l.way-index
+    × KeepsMarks l.initial.placing.placed.items l.placing.placed.items
+    × ArePartsPlaced l.placing.placed.items l.ways l.way-index

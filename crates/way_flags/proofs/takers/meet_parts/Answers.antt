@@ -1,7 +1,7 @@
 use Rattle.std.proofs.Common.{◌≡◌, ◌+◌, ◌++◌, ◌∷◌, [], Bool, List, take, get_or, sym, ◌∙◌, subst, false}
 use Rattle.std.proofs.lemmas.List.{take_more}
 use Rattle.ar_base.specs.Numbers.{WayId}
-use Rattle.way_flags.specs.Meeting.{Meets, IsTaken}
+use Rattle.way_flags.specs.Meeting.{MeetsWays, HasTakenPart}
 use Rattle.way_flags.specs.declared.takers.Met.{Met}
 use Rattle.way_flags.proofs.Meeting.{meets_one, meets_past}
 use Rattle.way_flags.proofs.takers.meet_parts.Goals as goal
@@ -19,14 +19,14 @@ loop-must-preserved c =
     let old = c.args.met.now in
     let q = get_or ps i no_part in
     let more : take (i + 1) ps ≡ take i ps ++ q ∷ [] = take_more ps i no_part c.loop-must-test.true in
-    subst (λ (z : List (Bool × WayId)). Meets (IsTaken z flags) old c.if-takes_part.met) (sym more)
+    subst (λ (z : List (Bool × WayId)). MeetsWays (HasTakenPart z flags) old c.if-takes_part.met) (sym more)
     (elim c.if-takes_part.branch [
       | then-takes_part+in_ok-meet w ↦
-          subst (λ (z : Met). Meets (IsTaken (take i ps ++ q ∷ []) flags) old z) (sym w.met-is)
+          subst (λ (z : Met). MeetsWays (HasTakenPart (take i ps ++ q ∷ []) flags) old z) (sym w.met-is)
           (meets_one flags (take i ps) q old c.loop-must.met w.meet.new.met c.loop-must.invariant
           (sym c.takes_part.ensures ∙ w.if-takes_part.true) w.in_ok-meet.ensures)
       | else-takes_part w ↦
-          subst (λ (z : Met). Meets (IsTaken (take i ps ++ q ∷ []) flags) old z) (sym w.met-is)
+          subst (λ (z : Met). MeetsWays (HasTakenPart (take i ps ++ q ∷ []) flags) old z) (sym w.met-is)
           (meets_past flags (take i ps) q old c.loop-must.met c.loop-must.invariant
           (sym c.takes_part.ensures ∙ w.if-takes_part.false))
     ])

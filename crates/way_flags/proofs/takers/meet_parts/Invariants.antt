@@ -1,6 +1,6 @@
 use Rattle.std.proofs.Common.{take}
-use Rattle.way_flags.specs.Meeting.{Meets, IsTaken}
+use Rattle.way_flags.specs.Meeting.{MeetsWays, HasTakenPart}
 use Rattle.way_flags.proofs.takers.meet_parts.Given as goal
 
 abbrev pub invariant-loop-must : goal.invariant-loop-must
-invariant-loop-must l = Meets (IsTaken (take l.must-index l.must-items) l.flags) l.initial.met l.met
+invariant-loop-must l = MeetsWays (HasTakenPart (take l.must-index l.must-items) l.flags) l.initial.met l.met

@@ -3,24 +3,24 @@ use Rattle.std.proofs.lemmas.List.{take_more}
 use Rattle.ar_base.specs.Lists.{Stands, IsOneOf}
 use Rattle.ar_base.proofs.Standing.{stands_get, stands_none, stands_one, one_left}
 use Rattle.ar_base.proofs.Items.{one_last, last_cases}
-use Rattle.way_flags.specs.Renewing.{WaitsAt, IsPlaceOf}
+use Rattle.way_flags.specs.Renewing.{WaitsAt, IsPlaceWith}
 use Rattle.way_flags.proofs.waiting.add_ways.Goals as goal
 
 is_way : (ways : List ℕ) (i : ℕ) → i < length ways → IsOneOf ways (get_or ways i 0)
 is_way ways i h = record { place = i; stands = stands_get ways i 0 h }
 
-nothing_more : (places : List ℕ) (P : ℕ → Type 0) (q : ℕ) → (P q) ↔ (P q ⊎ IsPlaceOf places (IsOneOf []) q)
+nothing_more : (places : List ℕ) (P : ℕ → Type 0) (q : ℕ) → (P q) ↔ (P q ⊎ IsPlaceWith places (IsOneOf []) q)
 nothing_more places P q = (
   (λ h. inl h),
   (λ h. elim h [ inl k ↦ k | inr r ↦ absurd (stands_none r.has.place r.n r.has.stands) ]),
 )
 
 one_more : (places ways : List ℕ) (w place q : ℕ) (First Old New : ℕ → Type 0) → Stands places w place
-    → ((q : ℕ) → (Old q ↔ (First q ⊎ IsPlaceOf places (IsOneOf ways) q)))
-    → ((q : ℕ) → (New q ↔ (Old q ⊎ (q ≡ place)))) → (New q ↔ (First q ⊎ IsPlaceOf places (IsOneOf (ways ++ w ∷ [])) q))
+    → ((q : ℕ) → (Old q ↔ (First q ⊎ IsPlaceWith places (IsOneOf ways) q)))
+    → ((q : ℕ) → (New q ↔ (Old q ⊎ (q ≡ place)))) → (New q ↔ (First q ⊎ IsPlaceWith places (IsOneOf (ways ++ w ∷ [])) q))
 one_more places ways w place q First Old New st before adds = (there, back)
   where
-    there : New q → First q ⊎ IsPlaceOf places (IsOneOf (ways ++ w ∷ [])) q
+    there : New q → First q ⊎ IsPlaceWith places (IsOneOf (ways ++ w ∷ [])) q
     there h = elim ((adds q).0 h) [
       | inl o ↦ (elim ((before q).0 o) [
         | inl f ↦ inl f
@@ -29,7 +29,7 @@ one_more places ways w place q First Old New st before adds = (there, back)
       | inr e ↦ inr (record { n = w; has = one_last ways w; stands = subst (λ (z : ℕ). Stands places w z) (sym e) st })
     ]
 
-    back : First q ⊎ IsPlaceOf places (IsOneOf (ways ++ w ∷ [])) q → New q
+    back : First q ⊎ IsPlaceWith places (IsOneOf (ways ++ w ∷ [])) q → New q
     back h = elim h [
       | inl f ↦ (adds q).1 (inl ((before q).1 (inl f)))
       | inr r ↦ (elim (last_cases ways w r.n r.has) [
@@ -55,12 +55,12 @@ loop-way-preserved c =
     let more : take (i + 1) ws ≡ take i ws ++ w ∷ [] = take_more ws i 0 c.loop-way-test.true in
     let below : w < length places = c.requires w (is_way ws i c.loop-way-test.true) in
     λ q. subst (λ (z : List ℕ). WaitsAt c.add_place.new.waiting q
-    ↔ (WaitsAt c.args.waiting.now q ⊎ IsPlaceOf places (IsOneOf z) q)) (sym more)
+    ↔ (WaitsAt c.args.waiting.now q ⊎ IsPlaceWith places (IsOneOf z) q)) (sym more)
     (one_more places (take i ws) w _ q (WaitsAt c.args.waiting.now) (WaitsAt c.loop-way.waiting)
     (WaitsAt c.add_place.new.waiting)
     (stands_get places w 0 below) c.loop-way.invariant c.in_ok-add_place.ensures)
 
 pub returns : goal.returns
 returns c = λ q. subst (λ (z : List ℕ). WaitsAt c.loop-way.waiting q
-    ↔ (WaitsAt c.args.waiting.now q ⊎ IsPlaceOf c.args.places.now (IsOneOf z) q))
+    ↔ (WaitsAt c.args.waiting.now q ⊎ IsPlaceWith c.args.places.now (IsOneOf z) q))
     (take_all c.loop-way.way-index c.args.ways.now c.loop-way-test.false) (c.loop-way.invariant q)

@@ -1,6 +1,6 @@
 use Rattle.std.proofs.Common.{arith, ◌≡◌, ◌+◌, ◌++◌, ◌∷◌, [], length, sym, ap, ◌∙◌, cond, refl}
 use Rattle.zdd_families.specs.SectionsInside.{IsMade}
-use Rattle.zdd_nodes.specs.Nodes.Makes.{known}
+use Rattle.zdd_nodes.specs.Nodes.MakesFamily.{known}
 use Rattle.zdd_nodes.specs.declared.Node.{Node}
 use Rattle.zdd_nodes.proofs.Stored.{IsCall}
 use Rattle.zdd_nodes.proofs.Calls.{asked, sound_seen, number_of_lo, number_found, no_room_not, no_room, is_full, room_left, makes_new, draws_new, store_new, IsStore-same, from_ok, ok_from_not_err, not_ok, popped_same, derived_lookup, derived_updates}

@@ -5,7 +5,7 @@ use Rattle.zdd_nodes.proofs.Halved.{lo_in, lo_above, hi_above, done}
 use Rattle.zdd_ops.proofs.Held.{IsSound-grow, IsSound-remember, handed}
 use Rattle.zdd_nodes.specs.Nodes.{at}
 use Rattle.zdd_nodes.specs.Nodes.{Stored}
-use Rattle.zdd_ops.specs.Operations.{IsSound}
+use Rattle.zdd_ops.specs.Operations.{AreResultsHeld}
 use Rattle.zdd_ops.specs.declared.memo.Operation.TheVariants.{Having}
 use Rattle.zdd_ops.proofs.Passing.{falls_to}
 use Rattle.zdd_ops.proofs.Havings.{having_small, having_none, having_first, having_halved, having_lower, having_upper}
@@ -114,7 +114,7 @@ node-requires-2-clause-hi_in t c =
 
 pub returns-in_err-made-clause-sound : goal.returns-in_err-made-clause-sound
 returns-in_err-made-clause-sound t c =
-    subst (λ (s : Stored). IsSound c.having_in-2.new.memo s.families) (sym c.in_err-made.ensures.err)
+    subst (λ (s : Stored). AreResultsHeld c.having_in-2.new.memo s.families) (sym c.in_err-made.ensures.err)
     c.in_ok-hi.ensures.sound
 
 pub node-requires-2-clause-lo_above : goal.node-requires-2-clause-lo_above

@@ -4,7 +4,7 @@ use Rattle.zdd_nodes.proofs.Growing.{Draws-stays, Draws-refused, Draws-after, st
 use Rattle.zdd_nodes.proofs.Halved.{lo_in, lo_above, hi_above, done}
 use Rattle.zdd_ops.proofs.Held.{IsSound-remember, handed}
 use Rattle.zdd_nodes.specs.Nodes.{Stored}
-use Rattle.zdd_ops.specs.Operations.{IsSound}
+use Rattle.zdd_ops.specs.Operations.{AreResultsHeld}
 use Rattle.zdd_ops.specs.declared.memo.Operation.TheVariants.{Minimal}
 use Rattle.zdd_ops.proofs.Passing.{falls_to}
 use Rattle.zdd_ops.proofs.Minimals.{minimal_small, minimal_halved, minimal_lower, minimal_above, minimal_upper}
@@ -165,7 +165,7 @@ node-requires-clause-hi_in t c =
 
 pub returns-in_err-made-clause-sound : goal.returns-in_err-made-clause-sound
 returns-in_err-made-clause-sound t c =
-    subst (λ (s : Stored). IsSound c.without_in.new.memo s.families) (sym c.in_err-made.ensures.err)
+    subst (λ (s : Stored). AreResultsHeld c.without_in.new.memo s.families) (sym c.in_err-made.ensures.err)
     c.in_ok-hi.ensures.sound
 
 pub node-requires-clause-lo_above : goal.node-requires-clause-lo_above

@@ -4,7 +4,7 @@ use Rattle.zdd_nodes.proofs.Growing.{Draws-stays, Draws-refused, Draws-after, Gr
 use Rattle.zdd_nodes.proofs.Halved.{lo_in, lo_above, hi_above, done}
 use Rattle.zdd_ops.proofs.Held.{IsSound-remember, handed}
 use Rattle.zdd_nodes.specs.Nodes.{Stored}
-use Rattle.zdd_ops.specs.Operations.{IsSound}
+use Rattle.zdd_ops.specs.Operations.{AreResultsHeld}
 use Rattle.zdd_ops.specs.declared.memo.Operation.TheVariants.{Without}
 use Rattle.zdd_ops.proofs.Passing.{falls_left, without_passed}
 use Rattle.zdd_ops.proofs.Withouts.{without_halved, without_lower, without_first, without_second, without_upper}
@@ -188,7 +188,7 @@ node-requires-clause-hi_in t c =
 
 pub returns-in_err-made-clause-sound : goal.returns-in_err-made-clause-sound
 returns-in_err-made-clause-sound t c =
-    subst (λ (s : Stored). IsSound c.join_in.new.memo s.families) (sym c.in_err-made.ensures.err)
+    subst (λ (s : Stored). AreResultsHeld c.join_in.new.memo s.families) (sym c.in_err-made.ensures.err)
     c.in_ok-hi.ensures.sound
 
 pub node-requires-clause-lo_above : goal.node-requires-clause-lo_above

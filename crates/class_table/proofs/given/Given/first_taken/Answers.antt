@@ -5,7 +5,7 @@ use Rattle.ar_base.specs.declared.places.Place.{Place}
 use Rattle.ar_base.proofs.Standing.{stands_get}
 use Rattle.class_table.specs.Earliest.{IsEarliest}
 use Rattle.class_table.specs.Names.{name_and_place}
-use Rattle.class_table.specs.Retested.{names_at, IsTaken}
+use Rattle.class_table.specs.Retested.{member_names_at, IsNameTaken}
 use Rattle.class_table.specs.TablesInside.{site_of}
 use Rattle.class_table.proofs.Taken.{map_next}
 use Rattle.class_table.proofs.GivenNames.{taken_none, taken_same, taken_more}
@@ -20,7 +20,7 @@ loop-name-preserved c = λ d known.
     let l : c.loop-name.name-index < length c.args.list.now = omega arith in
     let none : NameId × Place = (record { n = 0; of = record {} }, record { line = 0; column = 0 }) in
     let st = stands_get c.args.list.now c.loop-name.name-index none l in
-    subst (λ (ns : List (ℕ × Place)). IsEarliest (IsTaken (names_at d (map site_of c.args.sites.now)) ns) c.if-has.found)
+    subst (λ (ns : List (ℕ × Place)). IsEarliest (IsNameTaken (member_names_at d (map site_of c.args.sites.now)) ns) c.if-has.found)
     (sym (map_next name_and_place c.args.list.now c.loop-name.name-index _ st))
     (elim c.if-has.branch [
       | then-has w ↦ rw w.found-is
@@ -34,5 +34,5 @@ loop-name-preserved c = λ d known.
 pub returns : goal.returns
 returns c = λ d known.
     subst (λ (xs : List (NameId × Place)). IsEarliest
-    (IsTaken (names_at d (map site_of c.args.sites.now)) (map name_and_place xs)) c.loop-name.found)
+    (IsNameTaken (member_names_at d (map site_of c.args.sites.now)) (map name_and_place xs)) c.loop-name.found)
     (take_all c.loop-name.name-index c.args.list.now (omega arith)) (c.loop-name.invariant d known)

@@ -5,7 +5,7 @@ use Rattle.ar_base.specs.Numbers.{BodyId}
 use Rattle.ar_base.proofs.Standing.{stands_get, stands_map}
 use Rattle.class_table.specs.Members.{Site}
 use Rattle.class_table.specs.Repeating.{IsNamed}
-use Rattle.class_table.specs.Retested.{names_at}
+use Rattle.class_table.specs.Retested.{member_names_at}
 use Rattle.class_table.specs.TablesInside.{site_of}
 use Rattle.class_table.proofs.Taken.{map_next}
 use Rattle.class_table.proofs.GivenNames.{named_within, named_more}
@@ -27,7 +27,7 @@ loop-site-preserved c = λ d known n.
     let none : BodyId × ℕ = (record { n = 0; of = record {} }, 0) in
     let st = stands_get c.args.sites.now c.loop-site.site-index none c.loop-site-test.true in
     let e = map_next site_of c.args.sites.now c.loop-site.site-index _ st in
-    elim (named_more d _ _ _ (subst (λ (ss : List Site). IsNamed (names_at d ss) c.args.name.n) e n)) [
+    elim (named_more d _ _ _ (subst (λ (ss : List Site). IsNamed (member_names_at d ss) c.args.name.n) e n)) [
       | inl m ↦ c.loop-site.invariant d known m
       | inr m ↦ elim c.else-may_give.branch [
         | else-may_give-via-then-may_give+else-contains w ↦
@@ -42,6 +42,6 @@ pub returns : goal.returns
 returns c = λ d known. (
   λ e. absurd (not_both false refl e),
   λ n. absurd (c.loop-site.invariant d known
-      (subst (λ (xs : List (BodyId × ℕ)). IsNamed (names_at d (map site_of xs)) c.args.name.n)
+      (subst (λ (xs : List (BodyId × ℕ)). IsNamed (member_names_at d (map site_of xs)) c.args.name.n)
       (sym (take_all c.loop-site.site-index c.args.sites.now c.loop-site-test.false)) n)),
 )

@@ -4,7 +4,7 @@ use Rattle.ar_base.specs.Lists.{Along, Stands}
 use Rattle.ar_base.specs.Numbers.{NameId}
 use Rattle.ar_base.specs.declared.places.Place.{Place}
 use Rattle.ar_base.proofs.Standing.{stands_get}
-use Rattle.class_table.specs.Symbols.{UsesMore, list_of}
+use Rattle.class_table.specs.Symbols.{UsesMore, names_of_symbols}
 use Rattle.class_table.proofs.Taken.{take_next, map_next}
 use Rattle.class_table.proofs.Numbered.{numbers_next, numbers_start}
 use Rattle.class_table.proofs.symbols.Symbols.numbers.Goals as goal
@@ -23,7 +23,7 @@ loop-name-preserved c =
       subst (λ (xs : List ℕ). UsesMore xs c.args.self.now c.number.new.self)
           (sym (map_next (λ (n : NameId × Place). n.0.n) c.args.names.now c.loop-name.name-index _ s)) k.0,
       subst (λ (ns : List (NameId × Place)). Along
-          (λ (n : NameId × Place) (m : ℕ). Stands (list_of c.number.new.self) m n.0.n) ns c.push.new.self.items)
+          (λ (n : NameId × Place) (m : ℕ). Stands (names_of_symbols c.number.new.self) m n.0.n) ns c.push.new.self.items)
           (sym (take_next c.args.names.now c.loop-name.name-index _ s)) k.1,
     )
 
@@ -31,7 +31,7 @@ pub returns : goal.returns
 returns c =
     let e = take_all c.loop-name.name-index c.args.names.now (omega arith) in
     subst (λ (ns : List (NameId × Place)). UsesMore (map (λ (n : NameId × Place). n.0.n) ns) c.args.self.now
-    c.loop-name.self × Along (λ (n : NameId × Place) (k : ℕ). Stands (list_of c.loop-name.self) k n.0.n) ns
+    c.loop-name.self × Along (λ (n : NameId × Place) (k : ℕ). Stands (names_of_symbols c.loop-name.self) k n.0.n) ns
     c.loop-name.numbers.items) e
     c.loop-name.invariant
 

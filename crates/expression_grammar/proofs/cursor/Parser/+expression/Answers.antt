@@ -6,7 +6,7 @@ use Rattle.expression_grammar.specs.declared.terms.Chain.{Chain}
 use Rattle.expression_grammar.specs.declared.terms.Chain.TheVariants.{Any}
 use Rattle.expression_grammar.specs.Expressions.{Node, ReadsExpr, ReadsNot, ReadsMinus, ReadsProduct, ReadsSum, ReadsCompare, ReadsPrimary, ReadsIf, ReadsSwitch}
 use Rattle.expression_grammar.specs.Chains.{IsConstant, chain_form, ends_chain, ends_operand}
-use Rattle.expression_grammar.specs.Results.{kind_at, Finds, begins_term, begins_expr, begins_not, begins_minus, ends_list, ends_cases, ends_sum, is_relation}
+use Rattle.expression_grammar.specs.Results.{first_token_kind, FindsRefusal, begins_term, begins_expr, begins_not, begins_minus, ends_list, ends_cases, ends_sum, is_relation}
 use Rattle.expression_grammar.proofs.Finding.{finds_then, finds_fails, finds_given, finds_plain, finds_err, finds_ok, finds_memory, finds_inside, finds_no_room, finds_syntax, finds_nothing, finds_token, finds_from, finds_at, loops_start, loops_stop, loops_fail, loops_next, gathers_push, spans_then, spans_token, spans_expected, spans_at, spans_map, takes_map, takes_from, err_memory, eats_as, eats_kind, then_kind, follows_token, follows_then, follows_any}
 use Rattle.expression_grammar.proofs.PathForms.{pushed_more}
 use Rattle.expression_grammar.proofs.ExpressionForms.{and_left}
@@ -250,7 +250,7 @@ minus-returns-clause-only t c = finds_from
     (finds_plain (finds_inside c.if-left-eq0.false c.primary.ensures.only)
     (λ n next ts h s k none. (
       minus_plain n next ts h
-          (λ e. c.if-eat.ensures.other (ap kind_at (sym c.if-eat.ensures.left) ∙ sym k ∙ e)) none,
+          (λ e. c.if-eat.ensures.other (ap first_token_kind (sym c.if-eat.ensures.left) ∙ sym k ∙ e)) none,
       s,
     ))) c.if-eat.ensures.left
 
@@ -285,16 +285,16 @@ pub more_operands-returns-clause-only : goal.more_operands-returns-clause-only
 more_operands-returns-clause-only t c = let a = c.loop-chain-test.ensures in finds_at (loops_stop c.loop-chain.invariant.0.loops (λ n next ts h k. a.other (sym k ∙ then_kind h ∙ sym c.separator_of-separator.ensures.value))) a.left
 
 pub more_terms-returns-in_err-term-clause-only : goal.more_terms-returns-in_err-term-clause-only
-more_terms-returns-in_err-term-clause-only t c = let e = term_eats c.in-Some.plus c.in-Some.ensures.plus c.in-Some.ensures.minus in let o = term_open (kind_at c.loop-plus.self.rest.now) (ap begins_term (eats_kind e) ∙ term_sign c.in-Some.plus) in loops_fail c.loop-plus.invariant.0.loops o (finds_given (finds_then (finds_token e) c.in_err-term.ensures.only follows_any) (λ n next ts h s k. (term_given n c.in-Some.plus next ts h (k ∙ eats_kind e), s))) c.from_residual.ensures.1 sum_follows
+more_terms-returns-in_err-term-clause-only t c = let e = term_eats c.in-Some.plus c.in-Some.ensures.plus c.in-Some.ensures.minus in let o = term_open (first_token_kind c.loop-plus.self.rest.now) (ap begins_term (eats_kind e) ∙ term_sign c.in-Some.plus) in loops_fail c.loop-plus.invariant.0.loops o (finds_given (finds_then (finds_token e) c.in_err-term.ensures.only follows_any) (λ n next ts h s k. (term_given n c.in-Some.plus next ts h (k ∙ eats_kind e), s))) c.from_residual.ensures.1 sum_follows
 
 pub more_terms-loop-plus-preserved : goal.more_terms-loop-plus-preserved
-more_terms-loop-plus-preserved t c = let e = term_eats c.in-Some.plus c.in-Some.ensures.plus c.in-Some.ensures.minus in let o = term_open (kind_at c.loop-plus.self.rest.now) (ap begins_term (eats_kind e) ∙ term_sign c.in-Some.plus) in (
+more_terms-loop-plus-preserved t c = let e = term_eats c.in-Some.plus c.in-Some.ensures.plus c.in-Some.ensures.minus in let o = term_open (first_token_kind c.loop-plus.self.rest.now) (ap begins_term (eats_kind e) ∙ term_sign c.in-Some.plus) in (
   gathers_push c.loop-plus.invariant.0 o (spans_then (spans_token e) c.in_ok-term.ensures.found) (finds_given (finds_then (finds_token e) c.in_ok-term.ensures.only follows_any) (λ n next ts h s k. (term_given n c.in-Some.plus next ts h (k ∙ eats_kind e), s))) sum_follows c.in_ok-put.ensures.items,
   c.in_ok-term.ensures.end ∙ c.in-Some.ensures.end ∙ c.loop-plus.invariant.1,
 )
 
 pub more_terms-returns-in_err-put-clause-only : goal.more_terms-returns-in_err-put-clause-only
-more_terms-returns-in_err-put-clause-only t c = let e = term_eats c.in-Some.plus c.in-Some.ensures.plus c.in-Some.ensures.minus in let o = term_open (kind_at c.loop-plus.self.rest.now) (ap begins_term (eats_kind e) ∙ term_sign c.in-Some.plus) in let l = loops_next c.loop-plus.invariant.0.loops o (finds_given (finds_then (finds_token e) c.in_ok-term.ensures.only follows_any) (λ n next ts h s k. (term_given n c.in-Some.plus next ts h (k ∙ eats_kind e), s))) sum_follows in finds_memory l.front l.passed (err_memory _ _ c.from_residual-in_err-put.ensures.1 c.in_err-put.ensures.err)
+more_terms-returns-in_err-put-clause-only t c = let e = term_eats c.in-Some.plus c.in-Some.ensures.plus c.in-Some.ensures.minus in let o = term_open (first_token_kind c.loop-plus.self.rest.now) (ap begins_term (eats_kind e) ∙ term_sign c.in-Some.plus) in let l = loops_next c.loop-plus.invariant.0.loops o (finds_given (finds_then (finds_token e) c.in_ok-term.ensures.only follows_any) (λ n next ts h s k. (term_given n c.in-Some.plus next ts h (k ∙ eats_kind e), s))) sum_follows in finds_memory l.front l.passed (err_memory _ _ c.from_residual-in_err-put.ensures.1 c.in_err-put.ensures.err)
 
 pub more_terms-returns-clause-only : goal.more_terms-returns-clause-only
 more_terms-returns-clause-only t c =
@@ -339,13 +339,13 @@ not-returns-clause-only t c = finds_from
     (finds_plain (finds_inside c.if-left-eq0.false c.compare.ensures.only)
     (λ n next ts h s k none. (
       not_plain n next ts h
-          (λ e. c.if-eat.ensures.other (ap kind_at (sym c.if-eat.ensures.left) ∙ sym k ∙ e)) none,
+          (λ e. c.if-eat.ensures.other (ap first_token_kind (sym c.if-eat.ensures.left) ∙ sym k ∙ e)) none,
       s,
     ))) c.if-eat.ensures.left
 
 pub operand-returns-in-Any-clause-only : goal.operand-returns-in-Any-clause-only
 operand-returns-in-Any-clause-only t c =
-    subst (λ (k : Chain). Finds (operand_tokens k) (ends_operand k) c.args.left c.chain.result c.args.self.now.rest.now
+    subst (λ (k : Chain). FindsRefusal (operand_tokens k) (ends_operand k) c.args.left c.chain.result c.args.self.now.rest.now
     c.chain.new.self.rest.now) (sym c.in-Any.is) c.chain.ensures.only
 
 pub operands-returns-in_err-expect-clause-only : goal.operands-returns-in_err-expect-clause-only
@@ -520,7 +520,7 @@ switch-returns-in_err-cases-clause-only t c =
     follows_any) (λ n next ts h s k. (switch_parts n next ts h, refl))
 
 pub switch-returns-then-is_empty-clause-only : goal.switch-returns-then-is_empty-clause-only
-switch-returns-then-is_empty-clause-only t c = let z = ap length (sym c.as_slice.ensures.value) ∙ eqb-true _ 0 (sym c.if-is_empty.ensures) in finds_at (finds_given (finds_then (c.in_ok-expect.ensures.only _) (finds_then (c.in_ok-expect-2.ensures.only _) (finds_fails {A = RawExpr} {B = RawExpr} {r = Err _} (finds_syntax (λ n next ts h s k. c.in_ok-cases.ensures.over (ap kind_at (no_cases _ _ z c.in_ok-cases.ensures.found) ∙ sym k ∙ case_kind n next ts h))) refl follows_any) follows_any) follows_any) (λ n next ts h s k. (h, refl))) (no_cases _ _ z c.in_ok-cases.ensures.found)
+switch-returns-then-is_empty-clause-only t c = let z = ap length (sym c.as_slice.ensures.value) ∙ eqb-true _ 0 (sym c.if-is_empty.ensures) in finds_at (finds_given (finds_then (c.in_ok-expect.ensures.only _) (finds_then (c.in_ok-expect-2.ensures.only _) (finds_fails {A = RawExpr} {B = RawExpr} {r = Err _} (finds_syntax (λ n next ts h s k. c.in_ok-cases.ensures.over (ap first_token_kind (no_cases _ _ z c.in_ok-cases.ensures.found) ∙ sym k ∙ case_kind n next ts h))) refl follows_any) follows_any) follows_any) (λ n next ts h s k. (h, refl))) (no_cases _ _ z c.in_ok-cases.ensures.found)
 
 pub switch-returns-in_err-expect-3-clause-only : goal.switch-returns-in_err-expect-3-clause-only
 switch-returns-in_err-expect-3-clause-only t c =

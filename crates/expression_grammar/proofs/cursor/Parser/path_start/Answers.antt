@@ -1,5 +1,5 @@
 use Rattle.std.proofs.Common.{refl, sym, ap, ◌∙◌}
-use Rattle.expression_grammar.specs.Results.{kind_at}
+use Rattle.expression_grammar.specs.Results.{first_token_kind}
 use Rattle.expression_grammar.proofs.Finding.{finds_given, finds_then, finds_err, finds_ok, finds_token, finds_nothing, spans_token, spans_expected, spans_then, spans_from, finds_from, finds_at, eats_kind, follows_any}
 use Rattle.expression_grammar.proofs.PathForms.{start_owner, start_main, start_here}
 use Rattle.expression_grammar.proofs.cursor.Parser.path_start.Goals as goal
@@ -48,7 +48,7 @@ returns-clause-only c = λ left.
     finds_at (finds_given (finds_nothing _)
     (λ n next ts h s k. (
       start_here next ts h (λ e. a.other (sym k ∙ e))
-          (λ e. b.other (ap kind_at a.left ∙ sym k ∙ e)),
+          (λ e. b.other (ap first_token_kind a.left ∙ sym k ∙ e)),
       refl,
     ))) (b.left ∙ a.left)
 

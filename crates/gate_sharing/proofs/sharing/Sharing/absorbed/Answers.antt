@@ -4,7 +4,7 @@ use Rattle.eq_core.proofs.Telling.{grows_on}
 use Rattle.gate_sharing.specs.declared.literals.Literal.{Literal}
 use Rattle.gate_sharing.specs.declared.literals.Literal.TheVariants as l
 use Rattle.gate_sharing.specs.Absorbing.{AddsBeside}
-use Rattle.gate_sharing.specs.Literals.{literal_of, operands_of}
+use Rattle.gate_sharing.specs.Literals.{literal_of, literal_operands}
 use Rattle.gate_sharing.proofs.Absorbings.{Absorbing, literal_below, rest_all, absorbing_passes, absorbing_never, absorbing_keeps}
 use Rattle.gate_sharing.proofs.sharing.Sharing.absorbed.Goals as goal
 use Rattle.gate_sharing.proofs.sharing.Sharing.absorbed.Goals.{in-Always, in-Event+in_ok-push-in-Event, in-Gate+in_ok-push-in-Gate}
@@ -20,9 +20,9 @@ returns-in-Never c =
     let i = c.loop-place.place in
     let kept = c.loop-place.kept.items in
     let d = l.Event 0 false in
-    let b = subst (λ (z : List Literal). AddsBeside (operands_of (z ++ drop (i + 1) ls)) (literal_of (get_or ls i d)) c.loop-place.self
+    let b = subst (λ (z : List Literal). AddsBeside (literal_operands (z ++ drop (i + 1) ls)) (literal_of (get_or ls i d)) c.loop-place.self
     c.beside.new.self (Ok c.in_ok-beside.field-0)) c.deref.ensures.value
-    (subst (λ (z : List Literal). AddsBeside (operands_of (c.deref.result.now ++ z)) (literal_of (get_or ls i d)) c.loop-place.self
+    (subst (λ (z : List Literal). AddsBeside (literal_operands (c.deref.result.now ++ z)) (literal_of (get_or ls i d)) c.loop-place.self
     c.beside.new.self (Ok c.in_ok-beside.field-0)) (rest_all ls (i + 1)) c.in_ok-beside.ensures) in
     record {
       grows = grows_on c.loop-place.invariant.grows b.grows;
@@ -40,9 +40,9 @@ loop-place-preserved c =
     let kept = c.loop-place.kept.items in
     let d = l.Event 0 false in
     let r = c.in_ok-beside.field-0 in
-    let b = subst (λ (z : List Literal). AddsBeside (operands_of (z ++ drop (i + 1) ls)) (literal_of (get_or ls i d)) new
+    let b = subst (λ (z : List Literal). AddsBeside (literal_operands (z ++ drop (i + 1) ls)) (literal_of (get_or ls i d)) new
     more (Ok r)) c.deref.ensures.value
-    (subst (λ (z : List Literal). AddsBeside (operands_of (c.deref.result.now ++ z)) (literal_of (get_or ls i d)) c.loop-place.self
+    (subst (λ (z : List Literal). AddsBeside (literal_operands (c.deref.result.now ++ z)) (literal_of (get_or ls i d)) c.loop-place.self
     c.beside.new.self (Ok c.in_ok-beside.field-0)) (rest_all ls (i + 1)) c.in_ok-beside.ensures) in
     elim c.match-branch-2.branch [
       | in-Always w ↦ subst (λ (z : List Literal). Absorbing ls old more (i + 1) z) (sym (ap (λ v. v.items) w.kept-is))

@@ -6,7 +6,7 @@ use Rattle.mode_trees.specs.Views.{trees_of}
 use Rattle.zdd_families.specs.Families.{Family}
 use Rattle.zdd_nodes.specs.Nodes.{family}
 use Rattle.min_cuts.specs.Lines.{AreInFiringOrder}
-use Rattle.min_cuts.specs.Kept.{numbers, ArePlaces}
+use Rattle.min_cuts.specs.Kept.{numbers_of_set, AreEventPlaces}
 use Rattle.min_cuts.specs.declared.lister.Lister.TheInside.{Inside}
 use Rattle.min_cuts.proofs.Firing.{events_different}
 use Rattle.min_cuts.proofs.Going.{listing_begins, lines_begin}
@@ -14,7 +14,7 @@ use Rattle.min_cuts.proofs.lister.Lister.open.Goals as goal
 
 pub places_of-requires : goal.places_of-requires
 places_of-requires c =
-    subst (λ (z : List EventId). AreDifferent (numbers z)) (sym c.deref.ensures.value)
+    subst (λ (z : List EventId). AreDifferent (numbers_of_set z)) (sym c.deref.ensures.value)
     (subst AreDifferent (sym c.in_ok-order.ensures)
     (events_different (trees_of (λ n. n) c.args.forest.now) c.requires.trees))
 
@@ -33,7 +33,7 @@ invariant_of-result c =
     listing_begins (trees_of (λ n. n) c.args.forest.now) l c.requires.firable c.in_ok-steps.ensures.items
     c.in_ok-order.ensures
     c.in_ok-longest.ensures.sound c.requires.root
-    (subst (λ (z : List EventId). ArePlaces (numbers z) c.in_ok-places.places.items) c.deref.ensures.value
+    (subst (λ (z : List EventId). AreEventPlaces (numbers_of_set z) c.in_ok-places.places.items) c.deref.ensures.value
     c.in_ok-places.ensures)
     c.in_ok-longest.ensures.largest (omega (arith, c.in_ok-steps.ensures.capacity))
     (omega (arith, c.in_ok-spots.ensures.capacity))

@@ -5,8 +5,8 @@ use Rattle.value_changes.specs.Changes.{AreChanges}
 use Rattle.value_changes.specs.Restoring.{restored}
 use Rattle.value_changes.proofs.Found.{changes_back}
 use Rattle.ar_base.specs.Lists.{Stands}
-use Rattle.way_flags.specs.Turning.{turned}
-use Rattle.stepper.specs.Changes.{Point, IsPoint, point_at, before, AreTold}
+use Rattle.way_flags.specs.Turning.{flags_turned}
+use Rattle.stepper.specs.Changes.{Point, IsPoint, point_at, before, AreToldSteps}
 use Rattle.stepper.specs.Keeping.{point_of}
 use Rattle.stepper.specs.Steps.{Standing}
 use Rattle.stepper.proofs.Going.{told_back, same_point}
@@ -46,7 +46,7 @@ invariant_of-self-2 c =
     let values : c.restore.new.present.determined.values.values.items ≡ there.values =
     c.restore.ensures.values ∙ ap (λ (z : GtsParts). restored z here.values step.flows.variables.items
     step.flows.old.items) c.parts.ensures.parts in
-    let can : c.turn.new.flags.items ≡ there.can = c.turn.ensures ∙ ap (turned s.can.items) c.deref.ensures.value in
+    let can : c.turn.new.flags.items ≡ there.can = c.turn.ensures ∙ ap (flags_turned s.can.items) c.deref.ensures.value in
     let same : point_at c.restore.new.present c.turn.new.flags.items ≡ there =
     same_point (point_at c.restore.new.present c.turn.new.flags.items) there values c.restore.ensures.known
     can in
@@ -60,7 +60,7 @@ invariant_of-self-2 c =
             (subst (λ (z : List Bool). Stands z n true) c.restore.ensures.marks st);
       };
       flags = point.flags;
-      told = subst (λ (z : Point). AreTold p z (reverse rest)) (sym same) told.1;
+      told = subst (λ (z : Point). AreToldSteps p z (reverse rest)) (sym same) told.1;
       plan = c.self.invariant.plan;
       index = c.self.invariant.index;
     }

@@ -12,27 +12,27 @@ use Rattle.flow_propagate.specs.NewValues.{written}
 use Rattle.flow_propagate.specs.declared.propagation.FlowFault.{FlowFault}
 use Rattle.flow_propagate.specs.declared.propagation.PropagateFault.{PropagateFault}
 use Rattle.flow_propagate.specs.declared.propagation.PropagateFault.TheVariants as propagates
-use Rattle.way_flags.specs.Ready.{IsReady}
+use Rattle.way_flags.specs.Ready.{IsReadyWay}
 use Rattle.stepper.specs.Steps.{Standing}
 use Rattle.stepper.proofs.stepper.Stepper.fire.Goals as goal
 
 -- what is ready in what the stepper keeps is so in what is seen of it
 ready_seen : (p q : GtsParts) (kept read seen : List Value) (new given : List (VarId × Value)) (n : ℕ) → p ≡ q
     → read ≡ kept → kept ≡ seen → given ≡ new
-    → ((w : Way ℕ) → IsWayAt p n w → IsReady (net_of p) read w (written read new)) → (w : Way ℕ) → IsWayAt q n w
-    → IsReady (net_of q) seen w (written seen given)
+    → ((w : Way ℕ) → IsWayAt p n w → IsReadyWay (net_of p) read w (written read new)) → (w : Way ℕ) → IsWayAt q n w
+    → IsReadyWay (net_of q) seen w (written seen given)
 ready_seen p q kept read seen new given n system r s g h =
-    subst (λ (z : GtsParts). (w : Way ℕ) → IsWayAt z n w → IsReady (net_of z) seen w (written seen given)) system
-    (subst (λ (z : List (VarId × Value)). (w : Way ℕ) → IsWayAt p n w → IsReady (net_of p) seen w (written seen z))
+    subst (λ (z : GtsParts). (w : Way ℕ) → IsWayAt z n w → IsReadyWay (net_of z) seen w (written seen given)) system
+    (subst (λ (z : List (VarId × Value)). (w : Way ℕ) → IsWayAt p n w → IsReadyWay (net_of p) seen w (written seen z))
     (sym g)
-    (subst (λ (z : List Value). (w : Way ℕ) → IsWayAt p n w → IsReady (net_of p) z w (written z new)) (r ∙ s) h))
+    (subst (λ (z : List Value). (w : Way ℕ) → IsWayAt p n w → IsReadyWay (net_of p) z w (written z new)) (r ∙ s) h))
 
-stepped : (net : Net ℕ) (t state next : List Value) (w : Way ℕ) → IsReady net t w state → Flows net state (Total next)
+stepped : (net : Net ℕ) (t state next : List Value) (w : Way ℕ) → IsReadyWay net t w state → Flows net state (Total next)
     → Step net t w (Next next)
 stepped net t state next w r f = moves state r.can r.no_clash r.no_range r.receives f
 
 refused : (p : GtsParts) (t state : List Value) (w : Way ℕ) (e : PropagateFault) (f : FlowFault)
-    → IsReady (net_of p) t w state → e ≡ propagates.Flow f → IsFaultOf p state e
+    → IsReadyWay (net_of p) t w state → e ≡ propagates.Flow f → IsFaultOf p state e
     → Step (net_of p) t w (Refused (Flow (fault_of f)))
 refused p t state w e f r is h = flow state r.can r.no_clash r.no_range r.receives
     (subst (λ (z : PropagateFault). IsFaultOf p state z) is h)

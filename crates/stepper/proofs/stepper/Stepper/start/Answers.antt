@@ -5,7 +5,7 @@ use Rattle.ar_meaning.specs.Flows as flows
 use Rattle.ar_meaning.specs.Runs.{first_values, Start}
 use Rattle.gts_core.specs.View.{net_of}
 use Rattle.gts_core.specs.declared.system.GtsParts.{GtsParts}
-use Rattle.flow_changes.specs.Present.{Presents, values_of}
+use Rattle.flow_changes.specs.Present.{Presents, present_values}
 use Rattle.flow_changes.specs.declared.present.Present.{Present}
 use Rattle.flow_propagate.specs.Answers.{IsState, fault_of}
 use Rattle.flow_propagate.specs.declared.propagation.PropagateFault.{PropagateFault}
@@ -16,8 +16,8 @@ use Rattle.stepper.proofs.stepper.Stepper.start.Goals as goal
 
 module _ (p : GtsParts) where
   starts : (t : List Value) (r : Result Present PropagateFault) → t ≡ first_values (net_of p).variables → Presents p t r
-      → IfOk r (λ it. Start (net_of p) (values_of it))
-  starts t (Ok it) e h = subst (λ (z : List Value). flows.Flows (net_of p) z (flows.Total (values_of it))) e
+      → IfOk r (λ it. Start (net_of p) (present_values it))
+  starts t (Ok it) e h = subst (λ (z : List Value). flows.Flows (net_of p) z (flows.Total (present_values it))) e
       h.determined.flows
   starts t (Err f) e h = tt
 

@@ -2,7 +2,7 @@ use Rattle.std.proofs.Common.{Option, OnOk, List, ℕ, sym, ◌∙◌, ap, subst
 use Rattle.ar_syntax.specs.declared.members.Member.{out-Member}
 use Rattle.class_table.specs.Members.{declared_kind}
 use Rattle.unit_rules.specs.declared.settables.Settable.{Settable}
-use Rattle.unit_rules.specs.Settables.{Adds}
+use Rattle.unit_rules.specs.Settables.{AddsSettables}
 use Rattle.unit_rules.proofs.Entries.{same_entries, declared_entries}
 use Rattle.unit_rules.proofs.settables.Settables.add_member.Goals as goal
 
@@ -14,5 +14,5 @@ returns-in-Declare c = λ d s holds known. rw (c.in-Plain.is, c.in-Declare.is) (
     ∙ sym (declared_entries s (declared_kind d s c.in-Declare.type_name.form c.in-Declare.settings.items)
     c.in-Declare.names.items) in
     subst (λ (es : List (ℕ × Settable)). OnOk c.keep_all.result
-    (Adds c.args.body.n es c.args.self.now c.keep_all.new.self)) entries
+    (AddsSettables c.args.body.n es c.args.self.now c.keep_all.new.self)) entries
     (rw c.deref-in-Declare.ensures.value at c.keep_all.ensures))

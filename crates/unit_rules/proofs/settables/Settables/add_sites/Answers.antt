@@ -5,7 +5,7 @@ use Rattle.class_table.specs.Members.{Site, names_of, named_at, owned_at}
 use Rattle.class_table.specs.TablesInside.{site_of}
 use Rattle.class_table.proofs.Taken.{map_next}
 use Rattle.unit_rules.specs.declared.settables.Settable.{Settable}
-use Rattle.unit_rules.specs.Settables.{Adds, entries_of}
+use Rattle.unit_rules.specs.Settables.{AddsSettables, settable_entries}
 use Rattle.unit_rules.proofs.Keeping.{adds_none, adds_more}
 use Rattle.unit_rules.proofs.Entries.{sites_next}
 use Rattle.unit_rules.proofs.settables.Settables.add_sites.Goals as goal
@@ -22,7 +22,7 @@ loop-site-preserved c = λ d holds known.
     let e = map_next site_of c.args.sites.now c.loop-site.site-index _ s in
     let before = map site_of (take c.loop-site.site-index c.args.sites.now) in
     let site = site_of (get_or c.args.sites.now c.loop-site.site-index none) in
-    let added : Adds c.args.body.n (entries_of (names_of d site (owned_at d site))) c.loop-site.self
+    let added : AddsSettables c.args.body.n (settable_entries (names_of d site (owned_at d site))) c.loop-site.self
     c.match-owned_at.self =
     elim c.match-owned_at.branch [
       | in-Some+in_ok-add_member w ↦
@@ -32,6 +32,6 @@ loop-site-preserved c = λ d holds known.
           (let o = rw c.deref.ensures.value at (w.in_default.ensures d) in
           rw (← o holds.bodies, w.self-is) (adds_none c.args.body.n c.loop-site.self))
     ] in
-    subst (λ (es : List (ℕ × Settable)). Adds c.args.body.n es c.args.self.now c.match-owned_at.self)
-    (sym (ap (λ (ss : List Site). entries_of (named_at d ss)) e ∙ sites_next d before _))
+    subst (λ (es : List (ℕ × Settable)). AddsSettables c.args.body.n es c.args.self.now c.match-owned_at.self)
+    (sym (ap (λ (ss : List Site). settable_entries (named_at d ss)) e ∙ sites_next d before _))
     (adds_more c.args.body.n _ _ _ _ _ (c.loop-site.invariant d holds known) added)

@@ -4,7 +4,7 @@ use Rattle.hierarchy.specs.declared.outline.Outline.{Outline}
 use Rattle.class_table.specs.Members.{Site, named_at}
 use Rattle.class_table.proofs.Taken.{item_stands}
 use Rattle.hierarchy.specs.UnitsInside.{names_in}
-use Rattle.unit_rules.specs.Settables.{Adds, entries_of}
+use Rattle.unit_rules.specs.Settables.{AddsSettables, settable_entries}
 use Rattle.unit_rules.proofs.Entries.{members_there, members_past}
 use Rattle.unit_rules.proofs.Keeping.{adds_none, settables_next, settables_all}
 use Rattle.unit_rules.proofs.settables.Settables.new.Goals as goal
@@ -23,7 +23,7 @@ loop-outline-preserved c = λ m units h.
     let w = along_back units c.args.outlines.now h.along c.loop-outline.outline-index _ s in
     let known = rw c.deref.ensures.value at c.in_ok-places.ensures in
     let body = (get_or c.args.outlines.now c.loop-outline.outline-index none).body.n in
-    let added : Adds body (entries_of (names_in m body)) c.loop-outline.settables c.match-get.settables =
+    let added : AddsSettables body (settable_entries (names_in m body)) c.loop-outline.settables c.match-get.settables =
     elim c.match-get.branch [
       | in-Some+in_ok-add_sites v ↦
           (let l = rw c.deref-in-loop-outline.ensures.value at v.in-Some.ensures.lookup.3.0 in
@@ -31,11 +31,11 @@ loop-outline-preserved c = λ m units h.
           let s = item_stands c.args.classes.now.bodies.items body v.in-Some.body.now l i in
           let e = members_there m c.args.classes.now h.table.table body v.in-Some.body.now s in
           let a = rw v.deref-in-Some.ensures.value at (v.in_ok-add_sites.ensures m.declared h.table.table.holds known) in
-          rw v.settables-is (subst (λ (ss : List Site). Adds body (entries_of (named_at m.declared ss))
+          rw v.settables-is (subst (λ (ss : List Site). AddsSettables body (settable_entries (named_at m.declared ss))
           c.loop-outline.settables v.add_sites.new.self) e a))
       | in_default v ↦
           (let l = rw c.deref-in-loop-outline.ensures.value at v.in_default.ensures.lookup.3 in
-          rw v.settables-is (subst (λ (ss : List Site). Adds body (entries_of (named_at m.declared ss))
+          rw v.settables-is (subst (λ (ss : List Site). AddsSettables body (settable_entries (named_at m.declared ss))
           c.loop-outline.settables c.loop-outline.settables) (sym (members_past m c.args.classes.now h.table.table body l))
           (adds_none body c.loop-outline.settables)))
     ] in

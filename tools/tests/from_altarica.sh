@@ -100,9 +100,7 @@ answer 2 --place "$work/map" here
 answer 2 $models/ccf.alt --immediate soon
 answer 3 tests/mistakes/path.alt
 
-# What the pages say: the lists of all models, and what is done with each form.
-missing=$(python3 $here/rows.py $models/expected | while IFS= read -r row; do grep -qxF -- "$row" docs/use/FROM_ALTARICA.md || echo "$row"; done)
-equal "the page has each list" '' "$missing"
+# What the page says of each form is what is done with it.
 sed -n 's/^| `\([a-z]*\)` | `.*` | `[a-z]*: .* | \(done\|refused\)[^|]*|$/\1 \2/p' docs/use/FROM_ALTARICA.md | while read -r name outcome; do
   $tool tests/literature/"$name".alt --profile --range 0..9 >/dev/null 2>&1
   equal "the form $name is $outcome" "$outcome" "$([ $? -eq 0 ] && echo "done" || echo refused)"

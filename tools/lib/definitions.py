@@ -16,6 +16,20 @@ FIXITY = re.compile(r"^infix[lr]? \d+ (\S+)$")
 WORD = re.compile(r"[^\s(){}\[\],;]+")
 
 
+CALL = ["altarica_run/Answers.Answers"]
+"""What the first clause of the program's call cites."""
+REAL_RUN = ["altarica_run/Reading.AnswersBy", "ar_io/Handing.ReadsToTheEnd", "ar_io/Handing.Handed", "ar_io/Handing.Handing",
+            "ar_io/Handing.Writes", "ar_io/Handing.told_where", "ar_io/Loads.load_of", "job_stages/Numbers.number_of"]
+"""What its clause on real runs cites besides, with the clauses that tie it to a reader, a writer and an exit status."""
+
+
+def parts_of_name(name):
+    """The crate, the module and the own name of `cut_text/Texts.IsCutText`."""
+    crate, _, path = name.partition("/")
+    module, _, own = path.rpartition(".")
+    return crate, module, own
+
+
 class Definition:
     """A definition, or a block of them: its module, the names that it gives, and its lines without comments."""
 

@@ -6,6 +6,10 @@ import re
 import subprocess
 import sys
 
+sys.dont_write_bytecode = True
+sys.path.insert(0, "tools/lib")
+from definitions import REAL_RUN
+
 page = pathlib.Path("docs/trust/PROMISES.md").read_text()
 section = page[page.index("## What must be believed"):page.index("## What is promised")]
 call, real_run = (" ".join(part.split()) for part in section.split("The clause on real runs asks for"))
@@ -55,8 +59,7 @@ def declared():
 
 counted = words()
 first = set(words("--files"))
-begins = ",".join(["altarica_run/Reading.AnswersBy", "ar_io/Handing.ReadsToTheEnd", "ar_io/Handing.Handed", "ar_io/Handing.Handing",
-                   "ar_io/Handing.Writes", "ar_io/Handing.told_where", "ar_io/Loads.load_of", "job_stages/Numbers.number_of"])
+begins = ",".join(REAL_RUN)
 compare(files(call), first, "files of the call")
 compare(files(real_run), set(words("--files", "--from", begins)) - first, "files of real runs")
 compare(types(), declared(), "types")

@@ -8,7 +8,8 @@ models=tests/from_altarica
 here=tools/tests/translate
 
 # What a text means is what the program writes for `flat`.
-got=$(python3 $here/elaborated.py examples/*.alt tests/from_altarica/*.alt crates/altarica_cases/data/*{form,const,clone}*.model 2>&1 | grep -v "^[0-9]* models$\|symbol_and_flow")
+mapfile -t of_cases < <(models_of_cases '*form*' '*const*' '*clone*')
+got=$(python3 $here/elaborated.py examples/*.alt tests/from_altarica/*.alt "${of_cases[@]}" 2>&1 | grep -v "^[0-9]* models$\|symbol_and_flow")
 equal "what a text means is what the program writes for flat" '' "$got"
 
 # The kept lists; each is compared with all firing orders.

@@ -9,6 +9,7 @@ import tempfile
 TOP = os.path.dirname(os.path.dirname(os.path.dirname(os.path.realpath(__file__))))
 sys.path.insert(0, os.path.join(TOP, "tools", "lib"))
 
+import cases  # noqa: E402
 from asked import ProgramWords  # noqa: E402
 from program import run  # noqa: E402
 
@@ -76,11 +77,10 @@ def test(folder, name, words):
     return True
 
 
-os.chdir(os.path.join(TOP, "crates", "altarica_cases", "data"))
 listed = 0
-with tempfile.TemporaryDirectory() as folder, open("cases", encoding="utf-8") as cases:
-    for line in cases:
-        name, load, put, *words = line.split()
-        if words[:1] == ["cuts"] and load == put == "-":
-            listed += test(folder, name, words)
+with tempfile.TemporaryDirectory() as folder:
+    for job in cases.all_cases():
+        if job.words[:1] == [b"cuts"]:
+            os.chdir(job.folder)
+            listed += test(folder, job.name, [word.decode() for word in job.words])
 print("%s: %d listings among the cases" % ("passed" if listed > 30 else "failed", listed))

@@ -25,6 +25,13 @@ holds() {
   if said=$("$@" 2>&1); then passed "$what"; else failed "$what" "$said"; fi
 }
 
+# models_of_cases PATTERN..: the models of the cases of these names, one of those that are the same.
+models_of_cases() {
+  local pattern
+  # shellcheck disable=SC2086
+  for pattern; do sha256sum crates/altarica_cases/data/$pattern/model; done | sort | awk '!seen[$1]++ { print $2 }' | sort
+}
+
 # The words with which the example plants are asked for their cuts, as docs/use/EXAMPLES.md gives them.
 words_of() {
   case $1 in

@@ -20,6 +20,10 @@ else
 fi
 point "mutated models end with a status, and none for want of memory" tools/mutate "$ALTARICA" 3000
 
+# Of all definitions hardly two have one name.
+few_names() { [ "$(tools/words --all | grep -c '^[A-Za-z_]*: [a-z_]*/')" -le 40 ]; }
+point "at most 40 names of definitions have two meanings" few_names
+
 # Each name of a definition that must be believed has one meaning, and PROMISES names their files and counts their lines.
 point "each name that must be believed has one meaning" tools/words
 point "the files that must be believed, and their lines, are those of PROMISES" python3 tools/tests/believed.py

@@ -21,7 +21,8 @@ missing=$(for model in tests/mistakes/*.alt tests/literature/*.alt tests/why/*.a
 equal "each model of tests/mistakes, tests/literature and tests/why has an expected text" '' "$missing"
 equal "each expected text has a cause" "$(ls "$work"/want/*.text | wc -l)" "$(grep -l '^  cause: ' "$work"/want/*.text | wc -l)"
 
-got=$(python3 tools/tests/places.py tests/*/*.alt examples/*.alt crates/altarica_cases/data/*.model 2>&1)
+mapfile -t models < <(models_of_cases '*')
+got=$(python3 tools/tests/places.py tests/*/*.alt examples/*.alt "${models[@]}" 2>&1)
 equal "the grammar refuses what the program refuses, at the same places" '' "$got"
 
 got=$(python3 tools/tests/settled.py examples/*.alt tests/lint/*.alt tests/models/howto/{tie_bars,loop,protection}.alt 2>&1)

@@ -1,13 +1,13 @@
 //! Runs the worked cases of its folder over a shelf and a sink in memory.
 //!
-//! Each line of the file `cases` is a case: its name, the number of the load that is to fail or `-`, the number of
-//! the put that is to fail or `-`, and the words of the job. Words that name a file of the folder stand for its
-//! bytes. For each case its name, the status, how many faults the shelf and the sink counted, and the bytes that
-//! were written are printed. Then come the texts of the file `texts`, each with a job over it, the limits, each at its
-//! number and one past it, over texts that are made here, a long listing over sinks that fail, and texts of tables that
-//! are read.
+//! Each folder but `plants` is a case, which has its words, its files, and what it has to answer. For each its name and the
+//! status are printed, with the faults that the shelf and the sink counted where there are some, and where it answers
+//! otherwise what it wrote. Then come the texts of the file `texts`, each with a job over it, the limits, each at its number
+//! and one past it, over texts that are made here, a long listing over sinks that fail, and texts of tables that are read:
+//! of these all that they wrote is printed.
 #![tactic(auto)]
 
+mod cases;
 mod limits;
 mod made;
 mod sinks;
@@ -17,63 +17,62 @@ mod texts;
 use altarica_run::altarica;
 use ar_base::Memory;
 use ar_io::{MemoryShelf, MemorySink};
+use cases::run_cases;
 use limits::run_limits;
 use sinks::run_sinks;
+use std::io;
 use std::io::Write;
 use std::str::from_utf8;
-use std::{fs, io};
 use table_texts::run_table_texts;
 use texts::run_texts;
 
-/// The room for the text of a case, in bytes.
+/// The room for what a job writes, in bytes.
 const ROOM: usize = 65_536;
 
-/// The room for a text of which the last line alone is printed, in bytes.
+/// The room for what it writes where the last line alone is printed, in bytes.
 const LONG: usize = 262_144;
 
-/// Runs the job of these words, where `model` and `script` name these texts.
-pub(crate) fn run_job(rt: &HostRuntime, name: &str, texts: [&str; 2], job: &str) -> io::Result<()> {
-    let mut shelf = MemoryShelf::new(rt.alloc());
-    for (file, text) in ["model", "script"].iter().zip(texts) {
-        shelf.place(file, text.as_bytes()).map_err(no_memory)?;
+/// Runs the job of the words, over a shelf and a sink of which this call fails.
+pub(crate) fn answer_of(
+    rt: &HostRuntime,
+    shelf: &mut MemoryShelf,
+    failing_put: Option<u32>,
+    words: &[String],
+) -> io::Result<Answer> {
+    let mut sink = MemorySink::new(rt.alloc(), ROOM).map_err(no_memory)?;
+    if let Some(call) = failing_put {
+        sink.fail_at(&[call]).map_err(no_memory)?;
     }
-    run(rt, name, &mut shelf, "-", &words_of(rt, job)?)
+    let number = altarica(rt.alloc(), words, shelf, &mut sink).number();
+    let status = match (shelf.fault_count(), sink.fault_count()) {
+        (0, 0) => format!(in rt.alloc(); "{number}\n")?,
+        (loads, puts) => format!(in rt.alloc(); "{number} faults {loads} {puts}\n")?,
+    };
+    Ok(Answer { status, sink })
 }
 
 fn no_memory(_memory: Memory) -> io::Error {
     io::Error::from(io::ErrorKind::OutOfMemory)
 }
 
-// Runs the job of the words, over a shelf and a sink of which this call fails, and prints what it answers.
-fn run(
-    rt: &HostRuntime,
-    name: &str,
-    shelf: &mut MemoryShelf,
-    failing_put: &str,
-    words: &[String],
-) -> io::Result<()> {
-    let mut sink = MemorySink::new(rt.alloc(), ROOM).map_err(no_memory)?;
-    if let Ok(call) = failing_put.parse::<u32>() {
-        sink.fail_at(&[call]).map_err(no_memory)?;
-    }
-    let status = altarica(rt.alloc(), words, shelf, &mut sink).number();
-    let faults = (shelf.fault_count(), sink.fault_count());
-    println!(rt; "{name}: status {status} faults {} {}", faults.0, faults.1)?;
-    io::writer(rt).write_all(sink.bytes())
+/// What a job answers.
+#[derive(Drop)]
+pub(crate) struct Answer {
+    /// The line of its status, with the faults of the shelf and of the sink where there are some.
+    status: String,
+    /// What it wrote.
+    sink: MemorySink,
 }
 
-// Runs the job of the words over the files of the folder that they name.
-fn run_files(rt: &HostRuntime, name: &str, failing: [&str; 2], words: &[String]) -> io::Result<()> {
+/// Runs the job of these words, where `model` and `script` name these texts, and prints what it answers.
+pub(crate) fn run_job(rt: &HostRuntime, name: &str, texts: [&str; 2], job: &str) -> io::Result<()> {
     let mut shelf = MemoryShelf::new(rt.alloc());
-    for word in words {
-        if let Ok(bytes) = fs::read(rt, word.as_str()) {
-            shelf.place(word.as_str(), &bytes).map_err(no_memory)?;
-        }
+    for (file, text) in ["model", "script"].iter().zip(texts) {
+        shelf.place(file, text.as_bytes()).map_err(no_memory)?;
     }
-    if let Ok(call) = failing[0].parse::<u32>() {
-        shelf.fail_at(&[call]).map_err(no_memory)?;
-    }
-    run(rt, name, &mut shelf, failing[1], words)
+    let answer = answer_of(rt, &mut shelf, None, &words_of(rt, job)?)?;
+    print!(rt; "{name}: status {}", answer.status)?;
+    io::writer(rt).write_all(answer.sink.bytes())
 }
 
 // The words of a line.
@@ -103,23 +102,6 @@ pub(crate) fn end_of_job(
     let last = text.lines().last().unwrap_or("");
     println!(rt; "{name}: status {status}")?;
     println!(rt; "{last}")
-}
-
-// Runs the cases of the folder, each of a line.
-fn run_cases(rt: &HostRuntime) -> io::Result<()> {
-    let cases = fs::read_to_string(rt, "cases")?;
-    for line in cases.lines() {
-        let mut parts = line.splitn(4, ' ');
-        let name = parts.next().unwrap_or("");
-        let load = parts.next().unwrap_or("-");
-        let put = parts.next().unwrap_or("-");
-        let words = match parts.next() {
-            Some(job) => words_of(rt, job)?,
-            None => Vec::new(rt.alloc()),
-        };
-        run_files(rt, name, [load, put], &words)?;
-    }
-    Ok(())
 }
 
 // Runs the cases, the texts, the limits, the failing sinks, and the texts of tables.

@@ -1,5 +1,5 @@
 """interleaved.py SEED: writes a random model whose units have two state variables with their events in turn. So the trees of
-modes lie across each other, and the program draws its cuts by the walk through the events, and not by modes. Not proved."""
+modes lie across each other in the order of declaration. Not proved."""
 import random
 import sys
 

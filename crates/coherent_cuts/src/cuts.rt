@@ -18,7 +18,6 @@ ghost use Rattle.coherent_cuts.specs.Gates.{IsFamilyOfJoint, AreTabledOperands, 
 use crate::exclusive::exclusive_pairs;
 use crate::gates::{gate_family, operand_family};
 use crate::paths::{EdgePlaces, places};
-use ar_base::MOST_NODES;
 use diagram_steps::NumberedTree;
 use eq_core::{Gate, Operand};
 use gate_cones::cone;
@@ -29,15 +28,17 @@ use zdd_nodes::{NodeFault, NodeId};
 use zdd_ops::Ops;
 
 /// The least firable sets of at most as many events as are asked for at which the operand is true, in a store of their own.
-/// Neither the operand nor those that it rests on are negated. Beyond comes where more families were made on the way than a
-/// store may have, which says nothing of the sets.
+/// Neither the operand nor those that it rests on are negated. Beyond comes where more than `most` families were made on the
+/// way, which says nothing of the sets.
 pub fn least_cuts(
     alloc: Global,
     trees: &[NumberedTree],
     gates: &[Gate],
     root: Operand,
     order: Option<u32>,
+    most: u32,
 ) -> Result<Listed, Undrawn>
+    requires limit { most ≤ 16777216 }
     requires few { length trees.now ≤ 4294967295 }
     requires numbered { AreNumbered trees.now }
     requires apart { AreApart trees.now }
@@ -51,7 +52,7 @@ pub fn least_cuts(
 {
     let marks = cone(alloc, gates, root)?;
     let places = places(alloc, trees)?;
-    let mut ops = Ops::new(alloc, MOST_NODES);
+    let mut ops = Ops::new(alloc, most);
     let mut memo = Memo::new(alloc);
     let mut table = Vec::new(alloc);
     for (number, gate) in gates.iter().enumerate() {

@@ -1,5 +1,5 @@
 -- Families made over modes are those of the operands, and what an answer by them says.
-use Rattle.std.proofs.Common.{◌≡◌, ◌≤◌, ℕ, Bool, List, [], Option, length, get_or, filter, Result, Ok, Err, IfOk, refl, sym, ap, ◌∙◌, subst, arith}
+use Rattle.std.proofs.Common.{◌≡◌, ◌≤◌, ℕ, Bool, List, [], Option, length, get_or, filter, Result, Ok, Err, IfOk, sym, ap, ◌∙◌, subst, arith}
 use Rattle.std.specs.List.{All}
 use Rattle.std.proofs.lemmas.List.Elements.{All-nil, All-get_or}
 use Rattle.ar_base.proofs.Standing.{stands_one, stands_within, stands_get}
@@ -7,13 +7,13 @@ use Rattle.ar_firing.specs.Forest.{ModeTree}
 use Rattle.ar_firing.specs.Listed.{AreListed}
 use Rattle.zdd_families.specs.Families.{Family, minimal}
 use Rattle.zdd_families.specs.FamiliesInside.{IsFamily}
-use Rattle.zdd_families.specs.Sections.{IsCounted, IsHalf, of_minimal}
+use Rattle.zdd_families.specs.Sections.{IsCounted, of_minimal}
 use Rattle.zdd_families.proofs.Ascending.{ascends_nil}
 use Rattle.zdd_families.proofs.Sections.{section-whole}
 use Rattle.zdd_nodes.specs.Nodes.{NodeId, Stored, family, Draws, IsFamilyNumber, IsSoundStore}
 use Rattle.zdd_nodes.specs.declared.NodeFault.{NodeFault}
 use Rattle.zdd_nodes.specs.declared.NodeFault.TheVariants.{Full, Memory as OutOfMemory}
-use Rattle.zdd_nodes.proofs.Growing.{Grows-none, Draws-weaker, Draws-refused}
+use Rattle.zdd_nodes.proofs.Growing.{Grows-none, Draws-weaker}
 use Rattle.eq_core.specs.Gates.{Operand, GateIs, Gate, Table}
 use Rattle.eq_core.specs.Ordered.{AreOrdered}
 use Rattle.eq_core.specs.Values.{value_at}
@@ -21,7 +21,7 @@ use Rattle.eq_core.specs.ValuesInside.{IsBelow}
 use Rattle.eq_core.proofs.Telling.{place_below}
 use Rattle.firable_families.specs.FirableInside.{IsFirableUpTo, IsTrueUpTo, ListsLeastUpTo}
 use Rattle.firable_families.proofs.Few.{firable_of, small_of, firable_up_to}
-use Rattle.firable_families.proofs.Listing.{Lists, lists_listed, listed_lists, true_lists, least_listed}
+use Rattle.firable_families.proofs.Listing.{Lists, lists_listed, listed_lists, minimal_lists, least_listed}
 use Rattle.mode_nodes.specs.Bounds.{Bounded, GrowsWithin}
 use Rattle.mode_nodes.proofs.Allowed.{allowed, allowed_before}
 use Rattle.diagram_steps.specs.declared.trees.NumberedTree.{NumberedTree}
@@ -33,9 +33,9 @@ use Rattle.mode_diagrams.specs.Numbers.{HasFewEdges, IsByModes}
 use Rattle.mode_diagrams.specs.Sets.{AreSmall, HasSets, IsTrueFrom}
 use Rattle.mode_diagrams.specs.declared.listing.Listed.{Listed}
 use Rattle.gate_cones.specs.Cones.{own, named}
-use Rattle.gate_diagrams.specs.Needed.{family_at, IsNeeded, IsNeededByBoth, itself}
+use Rattle.gate_diagrams.specs.Needed.{family_at, IsNeeded, IsNeededByBoth}
 use Rattle.gate_diagrams.specs.NodeLimits.{NodesMayUpTo}
-use Rattle.gate_diagrams.specs.Needed.IsNeeded.{of_signed, of_half}
+use Rattle.gate_diagrams.specs.Needed.IsNeeded.{of_half}
 use Rattle.gate_diagrams.specs.declared.answer.Drawn.{Drawn}
 use Rattle.gate_diagrams.specs.declared.answer.Drawn.TheVariants.{Conflicts, Cuts}
 use Rattle.gate_diagrams.specs.declared.answer.Family.{Family as Answered}
@@ -43,21 +43,11 @@ use Rattle.gate_diagrams.specs.declared.by_modes.Unanswered.{Unanswered}
 use Rattle.gate_diagrams.specs.declared.by_modes.Unanswered.TheVariants.{Beyond, Nodes}
 use Rattle.gate_cones.specs.Marks.{AreConeMarks}
 use Rattle.gate_diagrams.specs.ByModes.{IsListedFamily, HasValueOf, DrawsByModes, AnswersByModes, unanswered_of}
-use Rattle.gate_diagrams.proofs.Answering.{least_drawn, needed_conflict, full_conflict, sets_conflict, needed_both, full_both, sets_top}
+use Rattle.gate_diagrams.proofs.Answering.{needed_conflict, full_conflict, sets_conflict, needed_both, full_both, sets_top}
 use Rattle.gate_diagrams.proofs.Filters.{of_members, family_same}
 use Rattle.gate_diagrams.proofs.FirableSets.{listed_one}
 
--- ---- what is listed of a table is listed of one with the same values
-pub listed_as : (order : Option ℕ) (trees : List NumberedTree) (new old : List Gate) (o p : Operand) (l : Listed)
-    → ((set : List ℕ) → value_at new o set ≡ value_at old p set) → IsListedFamily order trees new o l
-    → IsListedFamily order trees old p l
-listed_as order trees new old o p l h i = record {
-  sound = i.sound;
-  in_store = i.in_store;
-  is = λ forest b all a. i.is forest b all a ∙ family_same all new old o p h;
-}
-
--- and so are the minimal sets
+-- ---- minimal sets of operands with the same values
 pub minimal_as : (all : Family) (new : List Gate) (o : Operand) (old : List Gate) (p : Operand) → HasValueOf old p new o
     → minimal (family_at all new o) ≡ minimal (family_at all old p)
 minimal_as all new o old p h = ap minimal (family_same all new old o p h.same)
@@ -116,19 +106,14 @@ module _ (order : Option ℕ) (ns : List NumberedTree) (gates : List Gate) (o : 
         h.whole set (record { modes = m.0; are = m.1; cheap = cheap; holds = a.same m.0 set m.1 cheap ∙ t.holds });
   }
 
-  pub family_is : (forest : List ModeTree) → IsByModes forest ns → (all : Family)
-      → AreListed (IsFirableUpTo order forest) all → f ≡ family_at all gates o
-  unfolding family_at
-  family_is forest b all l = listed_one f (filter (value_at gates o) all) (lists_listed (lists_true forest b))
-      (lists_listed (true_lists order forest (value_at gates o) (of_members gates o) all l))
-
 is_listed : (order : Option ℕ) (ns : List NumberedTree) (gates : List Gate) (o : Operand) (s : Bounded) (n : ℕ)
     (l : Listed) → IsEnoughFor order ns s → HasOperandValues ns gates o s n → IsSoundStore l.store → IsFamilyNumber l.store l.root.n
     → HasSets (IsTrueFrom ns 0 s n) (family l.store l.root.n) → IsListedFamily order ns gates o l
 is_listed order ns gates o s n l enough a sound in_store h = record {
   sound = sound;
   in_store = in_store;
-  is = family_is order ns gates o s n enough a (family l.store l.root.n) (sound.families l.root.n in_store) h;
+  are = λ forest b. lists_listed
+      (lists_true order ns gates o s n enough a (family l.store l.root.n) (sound.families l.root.n in_store) h forest b);
 }
 
 pub listed_or_not : (order : Option ℕ) (ns : List NumberedTree) (gates : List Gate) (o : Operand) (s : Bounded) (n : ℕ)
@@ -140,22 +125,13 @@ listed_or_not order ns gates o s n enough a (Ok l) sound in_store h =
 listed_or_not order ns gates o s n enough a (Err e) sound in_store h = tt
 
 -- ---- the minimal sets
-module _ (all : Family) (gates : List Gate) (o : Operand) (whole : Family) (is : whole ≡ family_at all gates o)
-    (s t : Stored) where
-  copied_needed : (r : Result NodeId NodeFault) → Draws (IsCounted whole) whole s t r
-      → Draws (IsNeeded all gates o) (family_at all gates o) s t r
-  copied_needed r d = Draws-weaker (IsCounted (family_at all gates o)) (IsNeeded all gates o) (family_at all gates o) s t
-      r (λ h c. of_signed o (itself refl) c) (subst (λ z. Draws (IsCounted z) z s t r) is d)
-
-  pub copy_refused : (e : NodeFault) → Draws (IsCounted whole) whole s t (Err e)
-      → Draws (IsNeeded all gates o) (minimal (family_at all gates o)) s t (Err e)
-  copy_refused e d = Draws-refused (IsNeeded all gates o) (family_at all gates o) (minimal (family_at all gates o)) s t e
-      (copied_needed (Err e) d)
-
-  pub least_copied : (u : Stored) (n : NodeId) (r : Result NodeId NodeFault)
-      → Draws (IsCounted whole) whole s t (Ok n) → Draws (IsHalf (family t n.n)) (minimal (family t n.n)) t u r
-      → Draws (IsNeeded all gates o) (minimal (family_at all gates o)) s u r
-  least_copied u n r d m = least_drawn all gates o s t u n r (copied_needed (Ok n) d) m
+-- of the firable sets at which the operand is true they are the least
+pub least_are : (order : Option ℕ) (forest : List ModeTree) (gates : List Gate) (o : Operand) (f g : Family)
+    → AreListed (IsTrueUpTo order forest (value_at gates o)) f → g ≡ minimal f
+    → ListsLeastUpTo order forest (value_at gates o) g
+least_are order forest gates o f g l e =
+    subst (λ z. ListsLeastUpTo order forest (value_at gates o) z) (sym e)
+    (lists_listed (minimal_lists (listed_lists l)))
 
 -- ---- the least sets by products
 -- what is listed as the least firable sets is the minimal sets of the operand's family

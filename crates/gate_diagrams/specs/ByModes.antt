@@ -7,7 +7,7 @@ use Rattle.zdd_nodes.specs.Nodes.{NodeId, Stored, family, IsFamilyNumber, IsSoun
 use Rattle.zdd_nodes.specs.declared.NodeFault.TheVariants as NodeFault
 use Rattle.eq_core.specs.Gates.{Operand, Gate, Table}
 use Rattle.eq_core.specs.Values.{value_at}
-use Rattle.firable_families.specs.FirableInside.{IsFirableUpTo}
+use Rattle.firable_families.specs.FirableInside.{IsTrueUpTo}
 use Rattle.diagram_steps.specs.declared.trees.NumberedTree.{NumberedTree}
 use Rattle.mode_diagrams.specs.declared.drawing.Undrawn.{Undrawn}
 use Rattle.mode_diagrams.specs.Numbers.{IsByModes}
@@ -18,14 +18,13 @@ use Rattle.gate_diagrams.specs.Answers.{IsAnswerUpTo, AreNeeded, store_of}
 use Rattle.gate_diagrams.specs.declared.answer.Drawn.{Drawn}
 use Rattle.gate_diagrams.specs.declared.by_modes.Unanswered.{Unanswered}
 
--- the family is that of the operand over the firable sets of at most as many events as are asked for, where the numbered
+-- the family has the firable sets of at most as many events as are asked for at which the operand is true, where the numbered
 -- trees are those of a forest
 pub record IsListedFamily (order : Option ℕ) (trees : List NumberedTree) (gates : List Gate) (o : Operand) (l : Listed) : Type 0 where
   pub sound : IsSoundStore l.store
   pub in_store : IsFamilyNumber l.store l.root.n
-  pub is : (forest : List ModeTree) → IsByModes forest trees → (all : Family)
-      → AreListed (IsFirableUpTo order forest) all
-      → family l.store l.root.n ≡ family_at all gates o
+  pub are : (forest : List ModeTree) → IsByModes forest trees
+      → AreListed (IsTrueUpTo order forest (value_at gates o)) (family l.store l.root.n)
 
 -- why there is no answer, where an operand got no diagram
 abbrev pub unanswered_of : Undrawn → Unanswered

@@ -1,6 +1,6 @@
 //! The least firable sets, drawn over the modes of the trees.
 
-ghost use Rattle.std.specs.Prelude.{◌≤◌, List, length, map};
+ghost use Rattle.std.specs.Prelude.{◌≤◌, IfOk, List, length, map};
 ghost use Rattle.std.specs.List.{All};
 ghost use Rattle.ar_firing.specs.Forest.{ModeTree};
 ghost use Rattle.ar_firing.specs.Listed.{AreListed};
@@ -15,16 +15,17 @@ ghost use Rattle.firable_families.specs.FirableInside.{IsFirableUpTo};
 ghost use Rattle.mode_diagrams.specs.Trees.{AreNumbered, AreApart};
 ghost use Rattle.mode_diagrams.specs.Costs.{HaveDifferentEvents};
 ghost use Rattle.mode_diagrams.specs.Numbers.{HasFewEdges, IsByModes};
+ghost use Rattle.coherent_cuts.specs.Gates.{HasLeastFirable};
 ghost use Rattle.gate_diagrams.specs.ByModes.{AnswersByModes, DrawsByModes, HasValueOf};
 
 use crate::answer::{Drawn, Family};
-use crate::listed::{least_listed, listed_at};
+use crate::by_use::least_by_use;
+use crate::listed::{MOST_DIAGRAMS, least_within};
 use ar_base::Memory;
-use coherent_cuts::{is_coherent, least_cuts};
 use diagram_steps::{NumberedTree, in_order};
 use eq_core::{Equations, Gate, Operand};
 use gate_sharing::simplified;
-use mode_diagrams::{Undrawn, copied, numbered};
+use mode_diagrams::{Listed, Undrawn, copied, numbered};
 use mode_trees::Forest;
 use std::alloc::Global;
 use zdd_nodes::{NodeFault, NodeId};
@@ -33,8 +34,7 @@ use zdd_ops::Ops;
 /// Why there is no answer by mode diagrams.
 #[derive(Clone, Copy)]
 pub(crate) enum Unanswered {
-    /// Mode diagrams do not suffice, or the events of trees stand in turn, so that families would not be made node by
-    /// node.
+    /// Mode diagrams do not suffice.
     Beyond,
     /// The store of the answer got no node.
     Nodes(NodeFault),
@@ -77,9 +77,63 @@ impl From<Memory> for Unanswered {
     }
 }
 
-/// The answer by mode diagrams, over the trees in the order of their events, of the firable sets of at most as many events as
-/// are asked for.
+/// The order in which trees are drawn.
+#[derive(Clone, Copy)]
+enum TreeOrder {
+    /// For each operand that in which its gates use them, and only those that it uses.
+    OfUse,
+    /// That of their events.
+    Declared,
+}
+
+/// The answer by mode diagrams, of the firable sets of at most as many events as are asked for: over the trees in the order of
+/// their use, and where that takes too many nodes, in the order of their events.
 pub(crate) fn by_modes(
+    alloc: Global,
+    equations: &Equations,
+    forest: &Forest,
+    order: Option<u32>,
+    limit: u32,
+) -> Result<Drawn, Unanswered>
+    requires limit { limit ≤ 16777216 }
+    requires table { IsOrderedTable (table_of equations.now) }
+    requires trees { AreTrees (trees_of (λ n. n) forest.now) }
+    ensures { (all : Sets) → AreListed (IsFirableUpTo order (trees_of (λ n. n) forest.now)) all
+        → AnswersByModes order (trees_of (λ n. n) forest.now) (table_of equations.now) all limit
+        result }
+{
+    match by_use(alloc, equations, forest, order, limit) {
+        Err(Unanswered::Beyond) => as_declared(alloc, equations, forest, order, limit),
+        answer => answer,
+    }
+}
+
+// The answer over the trees in the order of their use.
+fn by_use(
+    alloc: Global,
+    equations: &Equations,
+    forest: &Forest,
+    order: Option<u32>,
+    limit: u32,
+) -> Result<Drawn, Unanswered>
+    requires limit { limit ≤ 16777216 }
+    requires table { IsOrderedTable (table_of equations.now) }
+    requires trees { AreTrees (trees_of (λ n. n) forest.now) }
+    ensures { (all : Sets) → AreListed (IsFirableUpTo order (trees_of (λ n. n) forest.now)) all
+        → AnswersByModes order (trees_of (λ n. n) forest.now) (table_of equations.now) all limit
+        result }
+{
+    let Some(trees) = numbered(alloc, &forest.trees)? else {
+        return Err(Unanswered::Beyond);
+    };
+    if trees.len() > u32::MAX as usize {
+        return Err(Unanswered::Beyond);
+    }
+    answer_by_modes(alloc, equations, &trees, TreeOrder::OfUse, order, limit)
+}
+
+// The answer over the trees in the order of their events.
+fn as_declared(
     alloc: Global,
     equations: &Equations,
     forest: &Forest,
@@ -102,7 +156,7 @@ pub(crate) fn by_modes(
     if trees.len() > u32::MAX as usize {
         return Err(Unanswered::Beyond);
     }
-    answer_by_modes(alloc, equations, &trees, order, limit)
+    answer_by_modes(alloc, equations, &trees, TreeOrder::Declared, order, limit)
 }
 
 // The least sets with a conflict, or, where there are none, those that make the value. What is drawn is a simplified table: at
@@ -111,6 +165,7 @@ fn answer_by_modes(
     alloc: Global,
     equations: &Equations,
     trees: &[NumberedTree],
+    tree_order: TreeOrder,
     order: Option<u32>,
     limit: u32,
 ) -> Result<Drawn, Unanswered>
@@ -129,26 +184,42 @@ fn answer_by_modes(
         return Err(Unanswered::Beyond);
     };
     let mut ops = Ops::new(alloc, limit);
-    let conflict = least_at(alloc, &mut ops, trees, &table.gates, table.conflict, order)?;
+    let conflict = least_at(
+        alloc,
+        &mut ops,
+        trees,
+        tree_order,
+        &table.gates,
+        table.conflict,
+        order,
+    )?;
     if conflict.n != 0 {
         return Ok(Drawn::Conflicts(Family {
             store: ops.into_store(),
             root: conflict,
         }));
     }
-    let top = least_at(alloc, &mut ops, trees, &table.gates, table.top, order)?;
+    let top = least_at(
+        alloc,
+        &mut ops,
+        trees,
+        tree_order,
+        &table.gates,
+        table.top,
+        order,
+    )?;
     Ok(Drawn::Cuts(Family {
         store: ops.into_store(),
         root: top,
     }))
 }
 
-// The least sets of an operand: from products of least sets where nothing that it rests on is negated and they take no more
-// nodes than a store may have, else from the family of all its sets.
+// The least sets of an operand. Of the nodes that finding them takes, none but those of their family come into the store.
 fn least_at(
     alloc: Global,
     ops: &mut Ops,
     trees: &[NumberedTree],
+    tree_order: TreeOrder,
     gates: &[Gate],
     root: Operand,
     order: Option<u32>,
@@ -165,25 +236,19 @@ fn least_at(
         → HasValueOf old o (map gate_of gates.now) (operand_of root)
         → DrawsByModes all old o ops.old ops.new result }
 {
-    if is_coherent(alloc, gates, root)? {
-        match least_cuts(alloc, trees, gates, root, order) {
-            Ok(least) => return Ok(copied(alloc, ops, &least.store, least.root)?),
-            Err(Undrawn::Memory) => return Err(Unanswered::Nodes(NodeFault::Memory)),
-            Err(Undrawn::Beyond) => {}
-        }
-    }
-    least_of_all(alloc, ops, trees, gates, root, order)
+    let least = least_in_order(alloc, trees, tree_order, gates, root, order)?;
+    Ok(copied(alloc, ops, &least.store, least.root)?)
 }
 
-// The least sets of an operand, from the family of all its sets.
-fn least_of_all(
+// The least firable sets of the operand, drawn over the trees in this order.
+fn least_in_order(
     alloc: Global,
-    ops: &mut Ops,
     trees: &[NumberedTree],
+    tree_order: TreeOrder,
     gates: &[Gate],
     root: Operand,
     order: Option<u32>,
-) -> Result<NodeId, Unanswered>
+) -> Result<Listed, Undrawn>
     requires few { length trees.now ≤ 4294967295 }
     requires numbered { AreNumbered trees.now }
     requires apart { AreApart trees.now }
@@ -191,11 +256,11 @@ fn least_of_all(
     requires small { All HasFewEdges trees.now }
     requires ordered { AreOrdered (map gate_of gates.now) }
     requires root_in { IsBelow (length gates.now) (operand_of root) }
-    ensures { (forest : List ModeTree) → IsByModes forest trees.now → (all : Sets)
-        → AreListed (IsFirableUpTo order forest) all → (old : List GateOf) (o : OperandOf)
-        → HasValueOf old o (map gate_of gates.now) (operand_of root)
-        → DrawsByModes all old o ops.old ops.new result }
+    ensures { IfOk result
+        (λ l. HasLeastFirable order trees.now (map gate_of gates.now) (operand_of root) l) }
 {
-    let listed = listed_at(alloc, trees, gates, root, order)?;
-    Ok(least_listed(alloc, ops, &listed)?)
+    match tree_order {
+        TreeOrder::OfUse => least_by_use(alloc, trees, gates, root, order),
+        TreeOrder::Declared => least_within(alloc, trees, gates, root, order, MOST_DIAGRAMS),
+    }
 }

@@ -3,6 +3,7 @@
 
 mod answer;
 mod by_modes;
+mod by_use;
 mod draw;
 mod firable;
 mod from_forest;

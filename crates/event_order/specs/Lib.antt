@@ -1,0 +1,5 @@
+pub mod Laws
+pub mod Ordered
+pub mod Renumbered
+pub mod Taking
+pub mod Visiting

@@ -56,6 +56,10 @@ pub enum Cap {
     /// Results of one step of a sum, a product or another fold over sets of values, each value so
     /// far with each value of the next operand: 8,388,608.
     Results,
+    /// Values of all sets of one search for the facts of a state, each as often as a set with it is
+    /// made, and results of all steps over them, from the first variable with two facts on:
+    /// 33,554,432. As many of each other evaluation of sets.
+    Values,
 }
 
 // The one place where a cap becomes want of memory.

@@ -21,6 +21,7 @@ use domains::Value;
 use fact_rows::first_rows;
 use gts_core::GtsParts;
 use std::alloc::Global;
+use typed_expr::Budget;
 
 // The facts of a state, and the least flow for which a reached assignment yields a value outside its domain.
 #[derive(Drop)]
@@ -62,6 +63,7 @@ fn look_at(
     readers: &Runs,
     n: u32,
     table: &mut Table,
+    budget: &mut Budget,
     outside: &mut Option<u32>,
     work: &mut Worklist<'_>,
 ) -> Result<(), Memory>
@@ -78,7 +80,7 @@ fn look_at(
         work.new) }
 {
     let assign = &parts.assigns[n as usize];
-    let look = apply(alloc, parts, assign, table)?;
+    let look = apply(alloc, parts, assign, table, budget)?;
     *outside = with_target(*outside, look.outside, assign.target.n);
     if !look.changed {
         return Ok(());
@@ -111,6 +113,7 @@ fn close(
 {
     let mut table = table;
     let mut work = work;
+    let mut budget = Budget::new();
     let mut outside = None;
     while let Some(n) = take(&mut work) {
         look_at(
@@ -119,6 +122,7 @@ fn close(
             readers,
             n,
             &mut table,
+            &mut budget,
             &mut outside,
             &mut work,
         )?;

@@ -15,6 +15,7 @@ use ar_base::Memory;
 use domains::{Domain, Value};
 use gts_core::{Assign, GtsParts};
 use std::alloc::Global;
+use typed_expr::Budget;
 
 // Adds what an assignment yields.
 pub(crate) fn apply(
@@ -22,6 +23,7 @@ pub(crate) fn apply(
     parts: &GtsParts,
     assign: &Assign,
     table: &mut Table,
+    budget: &mut Budget,
 ) -> Result<Look, Memory>
     requires sound { IsSound parts.now }
     requires one { IsOneOf parts.now.assigns.items assign.now }
@@ -31,7 +33,7 @@ pub(crate) fn apply(
     ensures outside { IfOk result (λ look.
         IsAnswer look.outside (LeavesTargetDomain parts.now table.old.rows.items assign.now)) }
 {
-    let Some(set) = yielded(alloc, assign, table)? else {
+    let Some(set) = yielded(alloc, assign, table, budget)? else {
         return Ok(Look {
             changed: false,
             outside: false,

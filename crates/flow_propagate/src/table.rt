@@ -14,7 +14,7 @@ use ar_base::{Memory, VarId};
 use domains::Value;
 use gts_core::Assign;
 use std::alloc::Global;
-use typed_expr::{Env, Expr, ValueKind, ValueSet, eval_set, first_of, kind_of, row_at};
+use typed_expr::{Budget, Env, Expr, ValueKind, ValueSet, eval_set_within, first_of, kind_of, row_at};
 
 /// The values known of each variable, by number.
 #[derive(Drop)]
@@ -47,12 +47,13 @@ pub(crate) fn reached(
     alloc: Global,
     conditions: &[(Expr<VarId>, bool)],
     table: &Table,
+    budget: &mut Budget,
 ) -> Result<bool, Memory>
     ensures { IfOk result (λ b. IsAnswer b
         (PassesConditions (TableHolds table.now.rows.items) (map condition_of conditions.now))) }
 {
     for (test, must) in conditions {
-        let set = eval_set(alloc, test, table)?;
+        let set = eval_set_within(alloc, test, table, budget)?;
         if !has(set.values(), Value::Truth(*must)) {
             return Ok(false);
         }
@@ -72,13 +73,14 @@ pub(crate) fn yielded(
     alloc: Global,
     assign: &Assign,
     table: &Table,
+    budget: &mut Budget,
 ) -> Result<Option<ValueSet>, Memory>
     ensures { IfOk result (λ o. YieldsFromTable table.now.rows.items (assign_of assign.now) o) }
 {
-    let reaches = reached(alloc, &assign.when, table)?;
+    let reaches = reached(alloc, &assign.when, table, budget)?;
     if !reaches {
         return Ok(None);
     }
-    let set = eval_set(alloc, &assign.value, table)?;
+    let set = eval_set_within(alloc, &assign.value, table, budget)?;
     Ok(Some(set))
 }

@@ -14,3 +14,4 @@ pub mod Folds
 pub mod Possible
 pub mod Evaluating
 pub mod Rows
+pub mod Budgets

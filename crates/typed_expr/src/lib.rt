@@ -2,6 +2,7 @@
 //! yield from facts.
 #![tactic(auto)]
 
+mod budget;
 mod env;
 mod expr;
 mod fold;
@@ -14,11 +15,12 @@ mod sets;
 mod total;
 mod value_set;
 
+pub use budget::Budget;
 pub use env::Env;
 pub use expr::{Expr, Relation, ValueKind};
 pub use kinds::{kind_of, typed};
 pub use laws::expression_laws;
-pub use possible::{eval_set, possible_values};
+pub use possible::{eval_set, eval_set_within, possible_values};
 pub use rows::{first_of, row_at};
 pub use total::eval_total;
 pub use value_set::ValueSet;

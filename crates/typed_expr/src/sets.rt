@@ -7,6 +7,7 @@ ghost use Rattle.typed_expr.specs.Folds.{next_of};
 ghost use Rattle.typed_expr.specs.Sets.{Gathers, HasExactly, KeepsLimit};
 ghost use Rattle.typed_expr.specs.Evaluating.{IsTruth, IsNextOperand};
 
+use crate::budget::Budget;
 use crate::fold::{Step, next};
 use crate::value_set::{Stop, ValueSet};
 use ar_base::{Cap, Memory};
@@ -19,8 +20,21 @@ const MOST_RESULTS: usize = 8_388_608;
 // As many values as are put in one by one; more are sorted first.
 const FEW: usize = 64;
 
+// The set of these values, which the budget allows.
+pub(crate) fn gathered(
+    alloc: Global,
+    values: &[Value],
+    most: Option<u32>,
+    budget: &mut Budget,
+) -> Result<ValueSet, Stop>
+    ensures { Gathers most result (Contains values.now) }
+{
+    budget.spend(values.len())?;
+    set_of(alloc, values, most)
+}
+
 // The set of these values.
-pub(crate) fn gathered(alloc: Global, values: &[Value], most: Option<u32>) -> Result<ValueSet, Stop>
+fn set_of(alloc: Global, values: &[Value], most: Option<u32>) -> Result<ValueSet, Stop>
     ensures { Gathers most result (Contains values.now) }
 {
     let out = joined(ValueSet::new(alloc), values, most)?;
@@ -56,6 +70,7 @@ pub(crate) fn joined_where(
     set: ValueSet,
     more: &ValueSet,
     most: Option<u32>,
+    budget: &mut Budget,
 ) -> Result<ValueSet, Stop>
     requires { KeepsLimit most set }
     ensures { Gathers most result (λ v. Contains set v ⊎ (IsTrue wanted × Contains more.now v)) }
@@ -64,11 +79,12 @@ pub(crate) fn joined_where(
         return Ok(set);
     }
     let values = more.values();
+    budget.spend(set.values().len().saturating_add(values.len()))?;
     if values.len() <= FEW {
         return joined(set, values, most);
     }
     let all = together(alloc, set.values(), values)?;
-    gathered(alloc, &all, most)
+    set_of(alloc, &all, most)
 }
 
 // Whether one of the two is true.
@@ -95,10 +111,10 @@ pub(crate) fn truth_set(
     ensures { Gathers most result (IsTruth can_be_false can_be_true) }
 {
     match (can_be_false, can_be_true) {
-        (false, false) => gathered(alloc, &[], most),
-        (true, false) => gathered(alloc, &[Value::Truth(false)], most),
-        (false, true) => gathered(alloc, &[Value::Truth(true)], most),
-        (true, true) => gathered(alloc, &[Value::Truth(false), Value::Truth(true)], most),
+        (false, false) => set_of(alloc, &[], most),
+        (true, false) => set_of(alloc, &[Value::Truth(false)], most),
+        (false, true) => set_of(alloc, &[Value::Truth(true)], most),
+        (true, true) => set_of(alloc, &[Value::Truth(false), Value::Truth(true)], most),
     }
 }
 
@@ -110,10 +126,12 @@ pub(crate) fn stepped(
     numbers: &[Value],
     values: &[Value],
     most: Option<u32>,
+    budget: &mut Budget,
 ) -> Result<ValueSet, Stop>
     ensures { Gathers most result (IsNextOperand step first numbers.now values.now) }
 {
     let count = numbers.len().saturating_mul(values.len());
+    budget.spend(count)?;
     if count <= FEW {
         return few_stepped(alloc, step, first, numbers, values, most);
     }
@@ -121,7 +139,7 @@ pub(crate) fn stepped(
         return Err(Stop::NoMemory(Memory::from(Cap::Results)));
     }
     let all = results(alloc, step, first, numbers, values)?;
-    gathered(alloc, &all, most)
+    set_of(alloc, &all, most)
 }
 
 // The same, the results put in one by one.

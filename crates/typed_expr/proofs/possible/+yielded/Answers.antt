@@ -445,7 +445,7 @@ truths-returns-in_err-set g t c =
     let facts = facts_of (g.E.Env.facts_at c.args.env.now) in
     err-same
     (λ (r : Result (Bool × Bool) Stop). TellsAnswer facts c.args.most c.args.b r (out-Expr g.row.V.Denot c.args.e.now))
-    c.from_residual.result c.in_err-set.field-0.0 c.from_residual.ensures.1 c.in_err-set.ensures
+    c.from_residual-in_err-set.result c.in_err-set.field-0.0 c.from_residual-in_err-set.ensures.1 c.in_err-set.ensures
 
 pub truths-returns : goal.truths-returns
 truths-returns g t c =

@@ -11,11 +11,11 @@ returns-then-values-le-FEW c =
 
 pub returns : goal.returns
 returns c =
-    wanted-as c.args.most c.args.set c.args.more.now c.values-values.result.now c.args.wanted c.gathered.result
+    wanted-as c.args.most c.args.set c.args.more.now c.values-values.result.now c.args.wanted c.set_of.result
     c.if-not-wanted.false c.values-values.ensures.values
-    (gathered-exactly c.args.most c.in_ok-all.all.items c.gathered.result
+    (gathered-exactly c.args.most c.in_ok-all.all.items c.set_of.result
     (λ v. Contains c.args.set v ⊎ Contains c.values-values.result.now v)
     (subst (λ (l : List Value). HasExactly c.in_ok-all.all.items (λ v. Contains l v ⊎ Contains c.values-values.result.now v))
-    c.values.ensures.values c.in_ok-all.ensures)
-    (subst (λ (l : List Value). Gathers c.args.most c.gathered.result (Contains l)) c.deref.ensures.value
-    c.gathered.ensures))
+    c.values-2.ensures.values c.in_ok-all.ensures)
+    (subst (λ (l : List Value). Gathers c.args.most c.set_of.result (Contains l)) c.deref.ensures.value
+    c.set_of.ensures))

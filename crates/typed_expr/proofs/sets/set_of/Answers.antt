@@ -3,7 +3,7 @@ use Rattle.domains.specs.declared.Value.{Value}
 use Rattle.typed_expr.specs.Sets.{Gathers}
 use Rattle.typed_expr.specs.declared.value_set.Stop.{Stop}
 use Rattle.typed_expr.proofs.Gathering.{err-same, gathered-as}
-use Rattle.typed_expr.proofs.sets.gathered.Goals as goal
+use Rattle.typed_expr.proofs.sets.set_of.Goals as goal
 
 pub returns-in_err-out : goal.returns-in_err-out
 returns-in_err-out c =

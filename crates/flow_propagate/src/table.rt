@@ -14,7 +14,9 @@ use ar_base::{Memory, VarId};
 use domains::Value;
 use gts_core::Assign;
 use std::alloc::Global;
-use typed_expr::{Budget, Env, Expr, ValueKind, ValueSet, eval_set_within, first_of, kind_of, row_at};
+use typed_expr::{
+    Budget, Env, Expr, ValueKind, ValueSet, eval_set_within, first_of, kind_of, row_at,
+};
 
 /// The values known of each variable, by number.
 #[derive(Drop)]

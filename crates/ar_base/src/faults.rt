@@ -56,9 +56,9 @@ pub enum Cap {
     /// Results of one step of a sum, a product or another fold over sets of values, each value so
     /// far with each value of the next operand: 8,388,608.
     Results,
-    /// Values of all sets of one search for the facts of a state, each as often as a set with it is
-    /// made, and results of all steps over them, from the first variable with two facts on:
-    /// 33,554,432. As many of each other evaluation of sets.
+    /// Values of all sets of one search for the facts of a state, from the first variable with two
+    /// facts on, each as often as it is looked at and with the results of all steps: 67,108,864. As
+    /// many of one other evaluation, and 134,217,728 of one test of what all expressions may yield.
     Values,
 }
 

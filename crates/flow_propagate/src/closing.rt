@@ -113,7 +113,7 @@ fn close(
 {
     let mut table = table;
     let mut work = work;
-    let mut budget = Budget::new();
+    let mut budget = Budget::for_facts();
     let mut outside = None;
     while let Some(n) = take(&mut work) {
         look_at(

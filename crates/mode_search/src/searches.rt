@@ -15,7 +15,7 @@ ghost use Rattle.ar_base.specs.Least.{least_with};
 use ar_base::{Memory, VarId};
 use gts_core::{Assign, Domains, GtsParts, domains_of};
 use std::alloc::Global;
-use typed_expr::{Expr, possible_values};
+use typed_expr::{Budget, Expr, possible_values};
 
 /// A flow or an observer with too many possible values.
 #[derive(Clone, Copy)]
@@ -34,37 +34,48 @@ pub fn first_wide(alloc: Global, parts: &GtsParts) -> Result<Option<Wide>, Memor
     ensures { IfOk result (IsFirstWide parts.now) }
 {
     let domains = domains_of(alloc, parts)?;
-    if let Some(flow) = least_flow(alloc, parts, &domains)? {
+    let mut budget = Budget::for_test();
+    if let Some(flow) = least_flow(alloc, parts, &domains, &mut budget)? {
         return Ok(Some(Wide::Flow(flow)));
     }
-    match first_observer(alloc, parts, &domains)? {
+    match first_observer(alloc, parts, &domains, &mut budget)? {
         Some(observer) => Ok(Some(Wide::Observer(observer))),
         None => Ok(None),
     }
 }
 
 // The least flow to which an assertion assigns too many possible values.
-fn least_flow(alloc: Global, parts: &GtsParts, domains: &Domains) -> Result<Option<u32>, Memory>
+fn least_flow(
+    alloc: Global,
+    parts: &GtsParts,
+    domains: &Domains,
+    budget: &mut Budget,
+) -> Result<Option<u32>, Memory>
     requires { AreDomains parts.now (length parts.now.variables.items) domains.now.rows.items }
     ensures { IfOk result (IsLeastNumber (IsWideFlow parts.now (length parts.now.assigns.items))) }
 {
     let mut least = None;
     for assign in &parts.assigns {
-        let wide = is_assign_wide(alloc, assign, domains)?;
+        let wide = is_assign_wide(alloc, assign, domains, budget)?;
         least = least_with(least, wide, assign.target.n);
     }
     Ok(least)
 }
 
 // The first observer with too many possible values.
-fn first_observer(alloc: Global, parts: &GtsParts, domains: &Domains) -> Result<Option<u32>, Memory>
+fn first_observer(
+    alloc: Global,
+    parts: &GtsParts,
+    domains: &Domains,
+    budget: &mut Budget,
+) -> Result<Option<u32>, Memory>
     requires sound { IsSound parts.now }
     requires domains { AreDomains parts.now (length parts.now.variables.items)
         domains.now.rows.items }
     ensures { IfOk result (IsLeastNumber (IsWideObserver parts.now)) }
 {
     for (n, observer) in parts.observers.iter().enumerate() {
-        let wide = is_wide(alloc, &observer.value, domains)?;
+        let wide = is_wide(alloc, &observer.value, domains, budget)?;
         if wide {
             return Ok(Some(n as u32));
         }
@@ -73,15 +84,20 @@ fn first_observer(alloc: Global, parts: &GtsParts, domains: &Domains) -> Result<
 }
 
 // Whether an assignment's expression or one of its conditions has too many possible values.
-fn is_assign_wide(alloc: Global, assign: &Assign, domains: &Domains) -> Result<bool, Memory>
+fn is_assign_wide(
+    alloc: Global,
+    assign: &Assign,
+    domains: &Domains,
+    budget: &mut Budget,
+) -> Result<bool, Memory>
     ensures { IfOk result (TestSays domains.now.rows.items
         (λ p. AssignIsWide (net_of p) (assign_of assign.now))) }
 {
-    let wide = is_wide(alloc, &assign.value, domains)?;
+    let wide = is_wide(alloc, &assign.value, domains, budget)?;
     if wide {
         return Ok(true);
     }
-    is_some_wide(alloc, &assign.when, domains)
+    is_some_wide(alloc, &assign.when, domains, budget)
 }
 
 // Whether one of these conditions has too many possible values.
@@ -89,11 +105,12 @@ fn is_some_wide(
     alloc: Global,
     conditions: &[(Expr<VarId>, bool)],
     domains: &Domains,
+    budget: &mut Budget,
 ) -> Result<bool, Memory>
     ensures { IfOk result (TestSays domains.now.rows.items (λ p. IsSomeWide p conditions.now)) }
 {
     for (test, _) in conditions {
-        let wide = is_wide(alloc, test, domains)?;
+        let wide = is_wide(alloc, test, domains, budget)?;
         if wide {
             return Ok(true);
         }
@@ -102,11 +119,16 @@ fn is_some_wide(
 }
 
 // Whether a subexpression or a step of a fold has more than 64 possible values.
-fn is_wide(alloc: Global, expr: &Expr<VarId>, domains: &Domains) -> Result<bool, Memory>
+fn is_wide(
+    alloc: Global,
+    expr: &Expr<VarId>,
+    domains: &Domains,
+    budget: &mut Budget,
+) -> Result<bool, Memory>
     ensures { IfOk result (TestSays domains.now.rows.items
         (λ p. IsWide (Allows (net_of p)) 64 (out-Expr ℕ (numbered expr.now)))) }
 {
-    let found = possible_values(alloc, expr, domains, 64)?;
+    let found = possible_values(alloc, expr, domains, 64, budget)?;
     Ok(found.is_none())
 }
 

@@ -8,6 +8,7 @@ use Rattle.domains.specs.declared.Value.{Value}
 use Rattle.domains.proofs.Members.{contains-one, first-in, pairs-head}
 use Rattle.domains.proofs.Order.{is_before-trans}
 use Rattle.typed_expr.specs.Evaluating.{SomeRelated}
+use Rattle.typed_expr.specs.Sets.{GoesAt}
 use Rattle.typed_expr.specs.declared.expr.Relation.{Relation}
 use Rattle.typed_expr.specs.declared.expr.Relation.TheVariants.{Differs, Less, AtMost}
 
@@ -54,6 +55,16 @@ greatest xs x v a e (k, h, i) =
           let j : k ≡ length xs - 1 = omega (arith, h, l) in
           inl (sym i ∙ ap (λ (n : ℕ). get_or xs n v) j ∙ last_is xs x v e)
     ]
+
+-- what the last value comes before goes in behind it
+pub goes-past : (xs : List Value) (x v : Value) → IsAscending xs → slice_get xs (length xs - 1) ≡ Some x
+    → is_before x v ≡ true → GoesAt xs v (length xs)
+goes-past xs x v a e b = record {
+  within = omega arith;
+  lower = λ k d l i. up_before (get_or xs k d) x v
+      (greatest xs x (get_or xs k d) a e (k, i, get_or_default xs k (get_or xs k d) d i)) b;
+  upper = λ k d i j. absurd (omega (arith, i, j));
+}
 
 module _ (xs ys : List Value) (x y : Value) (a : IsAscending xs) (b : IsAscending ys)
     (first : slice_get xs 0 ≡ Some x) (last : slice_get ys (length ys - 1) ≡ Some y) where

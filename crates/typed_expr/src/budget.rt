@@ -5,8 +5,11 @@ ghost use Rattle.typed_expr.specs.Budgets.{Spends, taken_by};
 
 use ar_base::{Cap, Memory};
 
-// The most values of all sets that share a budget, from the first set of two values on.
-const MOST_VALUES: u64 = 33_554_432;
+// The most values of the sets of one search for facts.
+const MOST_OF_FACTS: u64 = 67_108_864;
+
+// The most values of the sets of one test of all expressions of a system.
+const MOST_OF_TEST: u64 = 134_217_728;
 
 /// What evaluations that belong together may still take: each value of a set, and each result of a step of a fold, counts as
 /// one, and so does a variable without a value.
@@ -19,14 +22,25 @@ pub struct Budget {
 }
 
 impl Budget {
-    /// A budget of 33,554,432 values, of which none is spent.
-    pub fn new() -> Budget
+    /// The budget of one search for the facts of a state, or of one evaluation by itself: 67,108,864 values.
+    pub fn for_facts() -> Budget
         ensures counts { result.counts ≡ false }
-        ensures left { result.left ≡ 33554432 }
+        ensures left { result.left ≡ 67108864 }
     {
         Budget {
             counts: false,
-            left: MOST_VALUES,
+            left: MOST_OF_FACTS,
+        }
+    }
+
+    /// The budget of one test of what all expressions of a system may yield: 134,217,728 values.
+    pub fn for_test() -> Budget
+        ensures counts { result.counts ≡ false }
+        ensures left { result.left ≡ 134217728 }
+    {
+        Budget {
+            counts: false,
+            left: MOST_OF_TEST,
         }
     }
 

@@ -31,7 +31,7 @@ pub fn eval_set<V, E: Env<V>>(alloc: Global, expr: &Expr<V>, env: &E) -> Result<
         (λ set. HasExactly set (Yields (facts_of (E.facts_at env.now)) (out-Expr V expr.now))) }
     ensures ascending { IfOk result IsAscending }
 {
-    eval_set_within(alloc, expr, env, &mut Budget::new())
+    eval_set_within(alloc, expr, env, &mut Budget::for_facts())
 }
 
 /// What [`eval_set`] answers, within a budget that several evaluations share.
@@ -56,12 +56,13 @@ pub fn eval_set_within<V, E: Env<V>>(
 /// whole domains, or None where a subexpression or a step of a fold has more than `most`.
 ///
 /// The steps of a fold are what it may have come to after its first operands, none of them
-/// included. The error is want of memory, and a budget of the evaluation's own that is spent.
+/// included. The error is want of memory, and a budget that is spent.
 pub fn possible_values<V, E: Env<V>>(
     alloc: Global,
     expr: &Expr<V>,
     env: &E,
     most: u32,
+    budget: &mut Budget,
 ) -> Result<Option<ValueSet>, Memory>
     ensures yields { IfOk result (λ found. MatchOption found
         (IsWide (facts_of (E.facts_at env.now)) most (out-Expr V expr.now))
@@ -70,7 +71,7 @@ pub fn possible_values<V, E: Env<V>>(
         (λ set. IsWide (facts_of (E.facts_at env.now)) most (out-Expr V expr.now) → ⊥)) }
     ensures ascending { IfOk result (λ found. MatchOption found ⊤ IsAscending) }
 {
-    match yielded(alloc, expr, env, Some(most), &mut Budget::new()) {
+    match yielded(alloc, expr, env, Some(most), budget) {
         Ok(set) => Ok(Some(set)),
         Err(Stop::TooMany) => Ok(None),
         Err(Stop::NoMemory(memory)) => Err(memory),

@@ -104,10 +104,25 @@ pub(crate) fn place_of(v: Value, values: &[Value]) -> Option<usize>
     requires { IsAscending values.now }
     ensures { MatchOption result (Contains values.now v) (GoesAt values.now v) }
 {
+    if is_past(v, values) {
+        return Some(values.len());
+    }
     let place = first_not_before(v, values);
     match values.get(place) {
         Some(x) => if before(v, *x) { Some(place) } else { None },
         None => Some(place),
+    }
+}
+
+// Whether all of the values come before this one: the last of them does, if there is one. So a list that ascends is put in
+// without a search.
+fn is_past(v: Value, values: &[Value]) -> bool
+    requires { IsAscending values.now }
+    ensures { IsTrue result → GoesAt values.now v (length values.now) }
+{
+    match values.last() {
+        Some(last) => before(*last, v),
+        None => true,
     }
 }
 

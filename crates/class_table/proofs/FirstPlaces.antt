@@ -1,8 +1,9 @@
 -- The earliest of places.
 use Rattle.std.proofs.Common.{◌≡◌, ℕ, ◌+◌, ◌<◌, ◌⊎◌, Option, Some, None, sym, subst, inl, inr, arith}
+use Rattle.ar_base.specs.Breach.{IsEarlier}
 use Rattle.ar_base.specs.declared.places.Place.{Place}
 use Rattle.ar_base.proofs.Comparing.{lt_or_same, earlier_then, earlier_not}
-use Rattle.class_table.specs.Earliest.{IsEarliest, nowhere, there, IsEarlierOf, no_first, no_second, first, second, Until}
+use Rattle.class_table.specs.Earliest.{IsEarliest, nowhere, there, IsEarlierOf, no_first, no_second, first, second, Until, IsNotBefore, behind}
 
 -- by equations of what the cases are
 pub of_first : (f g : Option Place) → f ≡ None → IsEarlierOf f g g
@@ -39,14 +40,43 @@ module _ {P Q : Place → Type 0} where
   earliest_same f to from (nowhere h) = nowhere (λ p q. h p (from p q))
   earliest_same f to from (there {p = p} a h) = there (to p a) (λ q e b. h q e (from q b))
 
+-- what is not before the place found is not before the earlier one of two
+pub behind_earlier : (f g r : Option Place) (p : Place) → IsNotBefore p f → IsEarlierOf f g r → IsNotBefore p r
+behind_earlier f g r p (behind n) no_second = behind n
+behind_earlier f g r p (behind n) (first m) = behind n
+behind_earlier f g r p (behind {p = q} n) (second {q = s} e) = behind (λ h. n (earlier_then p s q h e))
+
+module _ {P Q R : Place → Type 0} where
+  -- the earliest place of either of two properties, where the second was tested only at places before the first found
+  pub earliest_beside : (f g r : Option Place) → IsEarliest P f → IsEarliest R g → IsEarlierOf f g r
+      → ((p : Place) → R p → Q p) → ((p : Place) → Q p → R p ⊎ IsNotBefore p f) → IsEarliest (λ p. P p ⊎ Q p) r
+  earliest_beside f g r h k e to from = go r (earliest_both f g r h k e) (λ p b. behind_earlier f g r p b e)
+    where
+      past : (q s : Place) → IsEarlier q s → IsNotBefore q (Some s) → ⊥
+      past q s l (behind m) = m l
+
+      go : (r : Option Place) → IsEarliest (λ p. P p ⊎ R p) r → ((p : Place) → IsNotBefore p f → IsNotBefore p r)
+          → IsEarliest (λ p. P p ⊎ Q p) r
+      go None (nowhere n) still = nowhere (λ p b. elim b [
+        | inl a ↦ n p (inl a)
+        | inr a ↦ elim (from p a) [ inl c ↦ n p (inr c) | inr c ↦ (elim (still p c) [ ]) ]
+      ])
+      go (Some s) (there a n) still = there (either a) (λ q l b. elim b [
+        | inl c ↦ n q l (inl c)
+        | inr c ↦ elim (from q c) [ inl d ↦ n q l (inr d) | inr d ↦ past q s l (still q d) ]
+      ])
+        where
+          either : P s ⊎ R s → P s ⊎ Q s
+          either (inl c) = inl c
+          either (inr c) = inr (to s c)
+
 module _ {P : ℕ → Place → Type 0} where
   -- the earliest place so far, and with one number more
   pub earliest_start : IsEarliest (Until P 0) None
   earliest_start = nowhere (λ p u. omega (arith, u.below))
 
-  pub earliest_next : (n : ℕ) (f g r : Option Place) → IsEarliest (Until P n) f → IsEarliest (P n) g → IsEarlierOf f g r
-      → IsEarliest (Until P (n + 1)) r
-  earliest_next n f g r h k e = earliest_same r to from (earliest_both f g r h k e)
+  pub earliest_more : (n : ℕ) (r : Option Place) → IsEarliest (λ p. Until P n p ⊎ P n p) r → IsEarliest (Until P (n + 1)) r
+  earliest_more n r h = earliest_same r to from h
     where
       to : (p : Place) → Until P n p ⊎ P n p → Until P (n + 1) p
       to p (inl u) = record { k = u.k; below = omega (arith, u.below); holds = u.holds }
@@ -60,3 +90,7 @@ module _ {P : ℕ → Place → Type 0} where
         | inl l ↦ inl (record { k = u.k; below = l; holds = u.holds })
         | inr e ↦ inr (subst (λ (m : ℕ). P m p) e u.holds)
       ]
+
+  pub earliest_next : (n : ℕ) (f g r : Option Place) → IsEarliest (Until P n) f → IsEarliest (P n) g → IsEarlierOf f g r
+      → IsEarliest (Until P (n + 1)) r
+  earliest_next n f g r h k e = earliest_more n r (earliest_both f g r h k e)

@@ -1,10 +1,10 @@
 -- Loops that look for the earliest place.
-use Rattle.std.proofs.Common.{ℕ, ◌+◌, ◌≤◌, List, length, Option, None, subst, arith}
+use Rattle.std.proofs.Common.{ℕ, ◌+◌, ◌≤◌, ◌⊎◌, inl, inr, List, length, Option, None, subst, arith}
 use Rattle.ar_base.specs.Lists.{Stands}
 use Rattle.ar_base.specs.declared.places.Place.{Place}
 use Rattle.ar_base.proofs.Standing.{stands_one, stands_within}
-use Rattle.class_table.specs.Earliest.{IsEarliest, IsEarlierOf, Until}
-use Rattle.class_table.proofs.FirstPlaces.{earliest_same, earliest_start, earliest_next}
+use Rattle.class_table.specs.Earliest.{IsEarliest, IsEarlierOf, Until, IsNotBefore}
+use Rattle.class_table.proofs.FirstPlaces.{earliest_same, earliest_start, earliest_more, earliest_next, earliest_beside}
 
 -- the item at a number has P at the place
 pub record AtItem {A : Type 0} (xs : List A) (P : ℕ → A → Place → Type 0) (k : ℕ) (p : Place) : Type 0 where
@@ -16,16 +16,24 @@ module _ {A : Type 0} (xs : List A) (P : ℕ → A → Place → Type 0) where
   pub loop_start : IsEarliest (Until (AtItem xs P) 0) None
   loop_start = earliest_start
 
+  at_item : (i : ℕ) (a : A) → Stands xs i a → (p : Place) → P i a p → AtItem xs P i p
+  at_item i a s p h = record { item = a; stands = s; has = h }
+
+  of_item : (i : ℕ) (a : A) → Stands xs i a → (p : Place) → AtItem xs P i p → P i a p
+  of_item i a s p h = subst (λ (b : A). P i b p) (stands_one xs i h.item a h.stands s) h.has
+
   pub loop_next : (i : ℕ) (a : A) (f g r : Option Place) → Stands xs i a → IsEarliest (Until (AtItem xs P) i) f
       → IsEarliest (P i a) g → IsEarlierOf f g r
       → IsEarliest (Until (AtItem xs P) (i + 1)) r
-  loop_next i a f g r s h k e = earliest_next i f g r h (earliest_same g to from k) e
-    where
-      to : (p : Place) → P i a p → AtItem xs P i p
-      to p h = record { item = a; stands = s; has = h }
+  loop_next i a f g r s h k e = earliest_next i f g r h (earliest_same g (at_item i a s) (of_item i a s) k) e
 
-      from : (p : Place) → AtItem xs P i p → P i a p
-      from p h = subst (λ (b : A). P i b p) (stands_one xs i h.item a h.stands s) h.has
+  -- the same, where an item was tested only at places before the one found
+  pub loop_beside : (i : ℕ) (a : A) (f g r : Option Place) (R : Place → Type 0) → Stands xs i a
+      → IsEarliest (Until (AtItem xs P) i) f → IsEarliest R g → IsEarlierOf f g r → ((p : Place) → R p → P i a p)
+      → ((p : Place) → P i a p → R p ⊎ IsNotBefore p f)
+      → IsEarliest (Until (AtItem xs P) (i + 1)) r
+  loop_beside i a f g r R s h k e to from =
+      earliest_more i r (earliest_beside f g r h k e (λ p q. at_item i a s p (to p q)) (λ p q. from p (of_item i a s p q)))
 
   pub loop_end : (Q : Place → Type 0) (i : ℕ) (f : Option Place) → length xs ≤ i
       → ((k : ℕ) (a : A) (p : Place) → Stands xs k a → P k a p → Q p)

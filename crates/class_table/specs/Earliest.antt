@@ -20,3 +20,7 @@ pub record Until (P : ℕ → Place → Type 0) (n : ℕ) (p : Place) : Type 0 w
   pub k : ℕ
   pub below : k < n
   pub holds : P k p
+
+-- a place was found, and this one is not before it
+pub data IsNotBefore (at : Place) : Option Place → Type 0 where
+  behind : {p : Place} → (IsEarlier at p → ⊥) → IsNotBefore at (Some p)

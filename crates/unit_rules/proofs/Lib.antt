@@ -17,3 +17,4 @@ pub mod Searched
 pub mod Sited
 pub mod Sums
 pub mod WrongSettings
+pub mod ToTest

@@ -9,7 +9,6 @@ use Rattle.ar_syntax.specs.declared.members.Setting.{Setting}
 use Rattle.class_table.specs.Earliest.{IsEarliest, nowhere, there}
 use Rattle.class_table.specs.Members.{Site, owned_at}
 use Rattle.class_table.specs.TablesInside.{site_of}
-use Rattle.class_table.proofs.FirstPlaces.{earliest_same}
 use Rattle.class_table.proofs.Looping.{AtItem}
 use Rattle.hierarchy.specs.Models.{RootedModel}
 use Rattle.hierarchy.specs.Units.{UnitPath, set_at_of}
@@ -42,27 +41,17 @@ module _ (m : RootedModel) (u : UnitPath) (settings : List Setting) where
 
 module _ (m : RootedModel) (u : UnitPath) where
   -- a unit without settings
-  pub no_declaration : set_at_of u ≡ None → IsEarliest (BreaksSettings m u) None
-  no_declaration e = nowhere (λ p b. (let f : None ≡ Some b.site = sym e ∙ b.set_at in absurd cc))
+  pub no_declaration : set_at_of u ≡ None → (p : Place) → BreaksSettings m u p → ⊥
+  no_declaration e p b = (let f : None ≡ Some b.site = sym e ∙ b.set_at in absurd cc)
 
-  pub no_settings : (site : Site) → set_at_of u ≡ Some site → owned_at m.declared site ≡ None
-      → IsEarliest (BreaksSettings m u) None
-  no_settings site e n = nowhere (λ p b. (
+  pub no_settings : (site : Site) → set_at_of u ≡ Some site → owned_at m.declared site ≡ None → (p : Place)
+      → BreaksSettings m u p → ⊥
+  no_settings site e n p b =
       let f : Some site ≡ Some b.site = sym e ∙ b.set_at in
       let g : site ≡ b.site = cc in
       let h : settings_at m b.site ≡ [] = ap (settings_at m) (sym g) ∙ ap settings_of n in
-      absurd (stands_none b.breaks.k b.breaks.setting
-      (subst (λ (xs : List Setting). Stands xs b.breaks.k b.breaks.setting) h b.breaks.stands))))
-
-  pub of_settings : (site : Site) (settings : List Setting) (r : Option Place) → set_at_of u ≡ Some site
-      → settings ≡ settings_at m site → IsEarliest (BreaksIn m u settings) r → IsEarliest (BreaksSettings m u) r
-  of_settings site settings r e q h = earliest_same r
-      (λ p b. record { site = site; set_at = e; breaks = subst (λ (xs : List Setting). BreaksIn m u xs p) q b })
-      (λ p b. (
-      let f : Some site ≡ Some b.site = sym e ∙ b.set_at in
-      let g : site ≡ b.site = cc in
-      subst (λ (xs : List Setting). BreaksIn m u xs p) (ap (settings_at m) (sym g) ∙ sym q) b.breaks))
-      h
+      stands_none b.breaks.k b.breaks.setting
+      (subst (λ (xs : List Setting). Stands xs b.breaks.k b.breaks.setting) h b.breaks.stands)
 
 -- the declaration whose settings hold in a unit
 pub set_nowhere : (u : UnitPath) (at : Option (BodyId × ℕ)) → IsSetAt (set_at_of u) at → at ≡ None → set_at_of u ≡ None
@@ -163,9 +152,3 @@ module _ (m : RootedModel) (units : List UnitPath) (outlines : List Outline)
           };
         };
       })
-
-  -- the earliest place of the settings of a unit is that of its number
-  pub at_unit : (k : ℕ) (o : Outline) (u : UnitPath) (r : Option Place) → Stands units k u
-      → IsEarliest (BreaksSettings m u) r → IsEarliest (BreaksNumber m units k o) r
-  at_unit k o u r s h = earliest_same r (λ p b. record { unit = u; stands = s; breaks = b })
-      (λ p b. subst (λ (v : UnitPath). BreaksSettings m v p) (stands_one units k b.unit u b.stands s) b.breaks) h

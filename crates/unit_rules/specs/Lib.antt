@@ -8,6 +8,7 @@ pub mod Searched
 pub mod Settables
 pub mod Sizes
 pub mod Statements
+pub mod ToTest
 pub mod Typing
 pub mod TypingInside
 pub mod Wrong

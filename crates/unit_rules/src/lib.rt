@@ -2,12 +2,13 @@
 //!
 //! The sizes of the members of each body are counted once, and what settings may set is listed once for a unit, so the cost
 //! is linear in the text, in the members of the bodies, inherited ones included, in the units with their names, and in the
-//! words of the settings that hold in them.
+//! words of the settings that hold in them. Of a declaration with a wrong setting, those behind it are tested in one unit.
 #![tactic(auto)]
 
 mod counts;
 mod declarations;
 mod expressions;
+mod left;
 mod limits;
 mod members;
 mod naming;

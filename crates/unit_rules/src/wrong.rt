@@ -1,23 +1,27 @@
 //! The first setting that sets nothing, or what an earlier one sets.
 
-ghost use Rattle.std.specs.Prelude.{◌≡◌, ◌<◌, ◌^◌, ◌↔◌, ℕ, false, List, IfOk, length};
+ghost use Rattle.std.specs.Prelude.{◌≡◌, ◌<◌, ◌^◌, ◌↔◌, ℕ, false, List, Some, IfOk, IfSome, IfNone, length};
 ghost use Rattle.ar_base.specs.Lists.{Stands};
+ghost use Rattle.ar_base.specs.declared.places.Place.{Place as PlaceOf};
 ghost use Rattle.ar_syntax.specs.declared.members.Setting.{Setting as SettingOf};
 ghost use Rattle.class_table.specs.Earliest.{IsEarliest};
+ghost use Rattle.class_table.specs.TablesInside.{HoldsDeclared, site_of};
 ghost use Rattle.class_table.specs.declared.tables.Classes.{Classes as Table};
 ghost use Rattle.hierarchy.specs.Models.{RootedModel};
-ghost use Rattle.hierarchy.specs.Units.{UnitPath};
+ghost use Rattle.hierarchy.specs.Settings.{settings_at};
+ghost use Rattle.hierarchy.specs.Units.{UnitPath, set_at_of};
 ghost use Rattle.hierarchy.specs.Tie.{AreOutlines, IsOutline};
 ghost use Rattle.unit_rules.specs.Rules.{BreaksSetting};
 ghost use Rattle.unit_walks.specs.Settling.{AreOutcomes};
 ghost use Rattle.unit_rules.specs.Settables.{AreSettables};
 ghost use Rattle.unit_rules.specs.Wrong.{IsSetBefore, BreaksAt, BreaksIn, BreaksSettings};
 
+use crate::left::WrongSearch;
 use crate::repeats::Targets;
 use crate::settables::Settables;
 use crate::sites::settings_of;
 use crate::targets::is_target;
-use ar_base::{Memory, Place, UnitId};
+use ar_base::{BodyId, Memory, Place, UnitId};
 use ar_syntax::Setting;
 use class_table::earliest::earliest;
 use class_table::{Classes, owned_at};
@@ -40,13 +44,33 @@ pub fn first_wrong_setting(
         → AreOutcomes m units walks.now → IfOk result (IsEarliest (BreaksSetting m units)) }
 {
     let settables = Settables::new(alloc, classes, outlines)?;
-    let mut found = None;
+    let mut search = WrongSearch::new(alloc);
     for (place, outline) in outlines.iter().enumerate() {
         let unit = UnitId::new(place as u32);
-        let wrong = wrong_in(alloc, &settables, classes, outlines, walks, unit, outline)?;
-        found = earliest(found, wrong);
+        if let Some((site, settings)) = settings_in(classes, outline) {
+            let tested = search.to_test(site, settings);
+            let wrong = wrong_among(alloc, &settables, outlines, walks, unit, tested)?;
+            search.add(site, tested, wrong)?;
+        }
     }
-    Ok(found)
+    Ok(search.found)
+}
+
+// The declaration whose settings hold in the unit, with the settings, where there is one.
+fn settings_in<'a>(
+    classes: &'a Classes,
+    outline: &Outline,
+) -> Option<((BodyId, u32), &'a [Setting])>
+    ensures some { (m : RootedModel) (units : List UnitPath) (u : UnitPath)
+        → HoldsDeclared m.declared classes.now → IsOutline m units u outline.now
+        → IfSome result (λ f. (set_at_of u ≡ Some (site_of f.0)) × (f.1.now ≡ settings_at m (site_of f.0))) }
+    ensures none { (m : RootedModel) (units : List UnitPath) (u : UnitPath)
+        → HoldsDeclared m.declared classes.now → IsOutline m units u outline.now
+        → IfNone result ((p : PlaceOf) → BreaksSettings m u p → ⊥) }
+{
+    let site = outline.set_at?;
+    let owned = owned_at(&classes.bodies, site)?;
+    Some((site, settings_of(owned)))
 }
 
 // The place of this setting, which holds in the unit, if it is wrong; it is new where no earlier
@@ -97,29 +121,4 @@ fn wrong_among(
         first = earliest(first, wrong);
     }
     Ok(first)
-}
-
-// The earliest place of a wrong setting of the declaration whose settings hold in the unit.
-fn wrong_in(
-    alloc: Global,
-    settables: &Settables,
-    classes: &Classes,
-    outlines: &[Outline],
-    walks: &Walks,
-    unit: UnitId,
-    outline: &Outline,
-) -> Result<Option<Place>, Memory>
-    ensures { (m : RootedModel) (units : List UnitPath) (u : UnitPath)
-        → AreOutlines m units classes.now outlines.now → AreOutcomes m units walks.now
-        → AreSettables m units settables.now → Stands units unit.n u
-        → IsOutline m units u outline.now
-        → IfOk result (IsEarliest (BreaksSettings m u)) }
-{
-    let Some(site) = outline.set_at else {
-        return Ok(None);
-    };
-    match owned_at(&classes.bodies, site) {
-        None => Ok(None),
-        Some(owned) => wrong_among(alloc, settables, outlines, walks, unit, settings_of(owned)),
-    }
 }

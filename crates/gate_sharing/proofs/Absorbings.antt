@@ -184,14 +184,14 @@ with_its_sign : (set : List ℕ) (gates : List Gate) (n : ℕ) (sign : Bool)
 with_its_sign set gates n true = refl
 with_its_sign set gates n false = refl
 
-signed_value : (set : List ℕ) (gates : List Gate) (sign : Bool) (o : Operand)
+pub signed_value : (set : List ℕ) (gates : List Gate) (sign : Bool) (o : Operand)
     → value_at gates (with_sign sign o) set ≡ signed sign (value_at gates o set)
 signed_value set gates true o = refl
 signed_value set gates false o = turned set (values_at set gates) o
 
 module _ (gates : List Gate) (n : ℕ) (gate : Gate) (sign whole : Bool) (below : AreBelow n gate.operands)
     (is : (b : Bool) → signed whole b ≡ signed sign (signed gate.both b)) where
-  literal_value : (new : List Gate) → Stands new n gate → (set : List ℕ) → value_at new (GateIs n sign) set
+  pub literal_value : (new : List Gate) → Stands new n gate → (set : List ℕ) → value_at new (GateIs n sign) set
       ≡ signed whole (joint_at true set (values_at set new) (needed_parts gate))
   literal_value new s set =
       with_its_sign set new n sign
@@ -240,7 +240,7 @@ pub beside_refused : (others : List Operand) (gates : List Gate) (o : Operand) (
     → AddsBeside others o gates gates (Err e)
 beside_refused others gates o e = record { grows = grows_self gates; below = tt; same = tt }
 
-below_up : (l n : ℕ) (o : Operand) → l ≤ n → IsBelow l o → IsBelow n o
+pub below_up : (l n : ℕ) (o : Operand) → l ≤ n → IsBelow l o → IsBelow n o
 below_up l n Always h b = tt
 below_up l n Never h b = tt
 below_up l n (EventIs e sign) h b = tt

@@ -29,7 +29,7 @@ gate_sign : (set : List ℕ) (gates : List Gate) (n : ℕ) (sign : Bool)
 gate_sign set gates n true = refl
 gate_sign set gates n false = refl
 
-twice : (both b : Bool) → signed both (signed both b) ≡ b
+pub twice : (both b : Bool) → signed both (signed both b) ≡ b
 twice true b = refl
 twice false true = refl
 twice false false = refl

@@ -4,3 +4,5 @@ pub mod Making
 pub mod Needing
 pub mod Imaging
 pub mod Absorbings
+pub mod Terming
+pub mod Voting

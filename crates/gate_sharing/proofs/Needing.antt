@@ -59,3 +59,34 @@ module _ (both : Bool) (images : List g.Operand) (items : List Operand) (i : ℕ
         (subst (λ (z : List g.Operand). AreEnough (needed_for both images (map operand_of (take i items)) ++ literal_of l ∷ []) z)
         (sym (ap (map literal_of) m ∙ map-append literal_of ls (l ∷ [])))
         (enough_keeps (needed_for both images (map operand_of (take i items))) (literal_operands ls) (literal_of l) a))
+
+-- ---- literals of operands, one by one
+module _ (items : List Operand) (i : ℕ) (h : i < length items) where
+  pub operand_never : get_or items i Always ≡ Never → AreNeverAll (map operand_of items)
+  operand_never e =
+      let x = get_or items i Always in
+      never_one (map operand_of items)
+      (subst (λ (z : g.Operand). IsOneOf (map operand_of items) z) (ap operand_of e)
+      (one_mapped operand_of items x (one_here items i x (stands_get items i Always h))))
+
+  operands_further : map operand_of (take (i + 1) items)
+      ≡ map operand_of (take i items) ++ operand_of (get_or items i Always) ∷ []
+  operands_further =
+      ap (map operand_of) (take_more items i Always h) ∙ map-append operand_of (take i items) (get_or items i Always ∷ [])
+
+  module _ (ls : List Literal) (a : AreEnough (map operand_of (take i items)) (literal_operands ls)) where
+    pub operand_passed : get_or items i Always ≡ Always
+        → AreEnough (map operand_of (take (i + 1) items)) (literal_operands ls)
+    operand_passed e =
+        subst (λ (z : List g.Operand). AreEnough z (literal_operands ls))
+        (sym (operands_further ∙ ap (λ (p : g.Operand). map operand_of (take i items) ++ p ∷ []) (ap operand_of e)))
+        (enough_passes (map operand_of (take i items)) (literal_operands ls) a)
+
+    pub operand_kept : (l : Literal) (new : List Literal) → operand_of (get_or items i Always) ≡ literal_of l
+        → new ≡ ls ++ l ∷ [] → AreEnough (map operand_of (take (i + 1) items)) (literal_operands new)
+    operand_kept l new e m =
+        subst (λ (z : List g.Operand). AreEnough z (literal_operands new))
+        (sym (operands_further ∙ ap (λ (p : g.Operand). map operand_of (take i items) ++ p ∷ []) e))
+        (subst (λ (z : List g.Operand). AreEnough (map operand_of (take i items) ++ literal_of l ∷ []) z)
+        (sym (ap (map literal_of) m ∙ map-append literal_of ls (l ∷ [])))
+        (enough_keeps (map operand_of (take i items)) (literal_operands ls) (literal_of l) a))

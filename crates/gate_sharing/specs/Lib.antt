@@ -4,3 +4,4 @@ pub mod Sharing
 pub mod Absorbing
 pub mod Known
 pub mod Images
+pub mod Votes

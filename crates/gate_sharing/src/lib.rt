@@ -5,6 +5,8 @@ mod absorbing;
 mod literals;
 mod sharing;
 mod tables;
+mod terms;
 mod unshared;
+mod votes;
 
 pub use tables::simplified;

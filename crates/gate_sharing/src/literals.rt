@@ -1,7 +1,8 @@
 //! Literals, and lists of them that are all needed.
 
-ghost use Rattle.std.specs.Prelude.{◌≡◌, IfOk, MatchOption};
+ghost use Rattle.std.specs.Prelude.{◌≡◌, ℕ, map, IfOk, IfSome, MatchOption};
 ghost use Rattle.eq_core.specs.Gates.{opposite};
+ghost use Rattle.eq_core.specs.ValuesInside.{IsBelow};
 ghost use Rattle.eq_core.specs.Views.{all_needed, operand_of};
 ghost use Rattle.gate_sharing.specs.Images.{with_sign};
 ghost use Rattle.gate_sharing.specs.Literals.{literal_of, literal_operands, AreEnough, AreNeverAll};
@@ -27,6 +28,16 @@ impl Literal {
         match self {
             Literal::Event(event, sign) => Literal::Event(event, !sign),
             Literal::Gate(gate, sign) => Literal::Gate(gate, !sign),
+        }
+    }
+
+    /// Itself or its opposite, whichever is no negation.
+    pub(crate) fn plain(self) -> Literal
+        ensures { (n : ℕ) → IsBelow n (literal_of self) → IsBelow n (literal_of result) }
+    {
+        match self {
+            Literal::Event(event, _) => Literal::Event(event, true),
+            Literal::Gate(gate, _) => Literal::Gate(gate, true),
         }
     }
 
@@ -57,6 +68,45 @@ pub(crate) fn negated(operand: Operand) -> Operand
         Operand::Event(event, sign) => Operand::Event(event, !sign),
         Operand::Gate(gate, sign) => Operand::Gate(gate, !sign),
     }
+}
+
+/// The operand, or its opposite where the sign is false.
+pub(crate) fn with_sign(sign: bool, operand: Operand) -> Operand
+    ensures { operand_of result ≡ with_sign sign (operand_of operand) }
+{
+    if sign { operand } else { negated(operand) }
+}
+
+/// The operand as a literal. None for a constant.
+pub(crate) fn literal_for(operand: Operand) -> Option<Literal>
+    ensures { IfSome result (λ literal. literal_of literal ≡ operand_of operand) }
+{
+    match operand {
+        Operand::Always => None,
+        Operand::Never => None,
+        Operand::Event(event, sign) => Some(Literal::Event(event.n, sign)),
+        Operand::Gate(gate, sign) => Some(Literal::Gate(gate.n, sign)),
+    }
+}
+
+/// Literals that are all true exactly where all of the operands are. None where one is never true.
+pub(crate) fn literals_for(
+    alloc: Global,
+    operands: &[Operand],
+) -> Result<Option<Vec<Literal>>, Memory>
+    ensures { IfOk result (λ found. MatchOption found (AreNeverAll (map operand_of operands.now))
+        (λ ls. AreEnough (map operand_of operands.now) (literal_operands ls.items))) }
+{
+    let mut literals = Vec::new(alloc);
+    for operand in operands {
+        match operand {
+            Operand::Always => {}
+            Operand::Never => return Ok(None),
+            Operand::Event(event, sign) => literals.push(Literal::Event(event.n, *sign))?,
+            Operand::Gate(gate, sign) => literals.push(Literal::Gate(gate.n, *sign))?,
+        }
+    }
+    Ok(Some(literals))
 }
 
 /// The operand for And, its opposite for Or: Or is the opposite of And over opposites.

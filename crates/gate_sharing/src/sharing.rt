@@ -1,6 +1,6 @@
 //! Gates that are shared.
 
-ghost use Rattle.std.specs.Prelude.{◌≡◌, ◌≤◌, ◌++◌, Bool, map, length, IfOk};
+ghost use Rattle.std.specs.Prelude.{◌≡◌, ◌≤◌, ◌++◌, Bool, map, length, IfOk, IfSome};
 ghost use Rattle.eq_core.specs.Ordered.{AreBelow, AreOrdered};
 ghost use Rattle.eq_core.specs.Values.{signed};
 ghost use Rattle.eq_core.specs.ValuesInside.{IsBelow};
@@ -8,10 +8,12 @@ ghost use Rattle.eq_core.specs.Views.{all_needed, gate_of, operand_of};
 ghost use Rattle.gate_sharing.specs.Absorbing.{Absorbs, AddsBeside};
 ghost use Rattle.gate_sharing.specs.Images.{with_sign};
 ghost use Rattle.gate_sharing.specs.Literals.{literal_of, literal_operands, AreEnough};
-ghost use Rattle.gate_sharing.specs.Sharing.{AddsGates};
+ghost use Rattle.gate_sharing.specs.Sharing.{AddsGates, IsAllOf};
+ghost use Rattle.gate_sharing.specs.Votes.{IsOfTerm};
 
 use crate::absorbing::{is_over_one, left_beside};
 use crate::literals::{Literal, Literals, for_joint, in_order};
+use crate::terms::{Term, term_of};
 use crate::unshared::Unshared;
 use ar_base::{GateId, Memory};
 use eq_core::{Gate, Joint, Operand};
@@ -27,6 +29,8 @@ const MOST_ABSORBED: usize = 8;
 pub(crate) struct Sharing {
     gates: Vec<Gate>,
     known: HashMap<Literals, Operand>,
+    // How many steps for votes are left.
+    steps: usize,
 }
 
 impl Model for Sharing {
@@ -43,13 +47,14 @@ impl Model for Sharing {
 }
 
 impl Sharing {
-    /// No gates. Takes no memory.
-    pub(crate) fn new(alloc: Global) -> Sharing
+    /// No gates, and so many steps for votes. Takes no memory.
+    pub(crate) fn new(alloc: Global, steps: usize) -> Sharing
         ensures { length result ≡ 0 }
     {
         Sharing {
             gates: Vec::new(alloc),
             known: HashMap::new(alloc),
+            steps,
         }
     }
 
@@ -58,7 +63,11 @@ impl Sharing {
         ensures gates { map gate_of result.items ≡ self }
         ensures ordered { AreOrdered self }
     {
-        let Sharing { gates, known: _ } = self;
+        let Sharing {
+            gates,
+            known: _,
+            steps: _,
+        } = self;
         gates
     }
 
@@ -101,6 +110,51 @@ impl Sharing {
             return Ok(Operand::Never);
         };
         self.all_of(alloc, joint, &left)
+    }
+
+    /// The operand that was kept for these literals.
+    pub(crate) fn known_for(&self, key: &Literals) -> Option<Operand>
+        ensures { IfSome result
+            (λ known. IsAllOf self.now (operand_of known) (literal_operands key.now.all.items)) }
+    {
+        self.known.get(key).copied()
+    }
+
+    /// Keeps the operand for these literals.
+    pub(crate) fn keep(&mut self, key: Literals, operand: Operand) -> Result<(), Unshared>
+        requires { IsAllOf self.old (operand_of operand) (literal_operands key.all.items) }
+        ensures { self.new ≡ self.old }
+    {
+        self.known.insert(key, operand)?;
+        Ok(())
+    }
+
+    /// Takes so many steps of those that are left. False where fewer are left: then none are taken.
+    pub(crate) fn spend(&mut self, steps: usize) -> bool
+        ensures { self.new ≡ self.old }
+    {
+        if steps > self.steps {
+            return false;
+        }
+        self.steps -= steps;
+        true
+    }
+
+    /// The term of which the literal is the value for And, the opposite for Or. None where it is not that of a gate of two
+    /// operands.
+    pub(crate) fn term_for(&self, literal: Literal, whole: Joint) -> Option<Term>
+        requires { IsBelow (length self.now) (literal_of literal) }
+        ensures { IfSome result
+            (λ term. IsOfTerm (all_needed whole) self.now (literal_of literal) term) }
+    {
+        let Literal::Gate(number, sign) = literal else {
+            return None;
+        };
+        let gate = &self.gates[number as usize];
+        if whole_joint(gate.joint, sign) != whole {
+            return None;
+        }
+        term_of(gate)
     }
 
     // Whether one of them is of a gate over an event or a gate that another one has. Where none is, they stay as they are.

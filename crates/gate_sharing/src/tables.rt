@@ -16,6 +16,12 @@ use eq_core::{Equations, Gate, Operand};
 use gate_cones::cone;
 use std::alloc::Global;
 
+// How many terms of votes are looked at for each gate of the table, taken together: so the whole takes time linear in its size.
+const STEPS_PER_GATE: usize = 64;
+
+// How many votes may be in one another.
+const MOST_LEVELS: usize = 512;
+
 /// A table whose conflict and top operands have at every set the values of those of this one. Of its gates those on which
 /// neither rests are left out. None where it would have more gates than there are numbers, 4,294,967,295. The error is want of
 /// memory.
@@ -40,7 +46,8 @@ fn simplified_table(alloc: Global, equations: &Equations) -> Result<Equations, U
 {
     let conflict = cone(alloc, &equations.gates, equations.conflict)?;
     let top = cone(alloc, &equations.gates, equations.top)?;
-    let mut sharing = Sharing::new(alloc);
+    let steps = equations.gates.len().saturating_mul(STEPS_PER_GATE);
+    let mut sharing = Sharing::new(alloc, steps);
     let mut images = Vec::new(alloc);
     for (number, gate) in equations.gates.iter().enumerate() {
         let needed = is_marked(&conflict, &top, number);
@@ -85,7 +92,7 @@ fn next_image(
     let Some(literals) = needed_literals(alloc, images, gate)? else {
         return Ok(for_joint(gate.joint, Operand::Never));
     };
-    let all = sharing.simplest(alloc, gate.joint, &literals)?;
+    let all = sharing.voted(alloc, gate.joint, &literals, MOST_LEVELS)?;
     Ok(for_joint(gate.joint, all))
 }
 

@@ -140,8 +140,8 @@ impl Sharing {
         true
     }
 
-    /// The term of which the literal is the value for And, the opposite for Or. None where it is not that of a gate of two
-    /// operands.
+    /// The term that is true exactly where the literal is, if And is asked for, or where it is not, if Or is. None where the
+    /// literal is not one of a gate of two operands that joins them so.
     pub(crate) fn term_for(&self, literal: Literal, whole: Joint) -> Option<Term>
         requires { IsBelow (length self.now) (literal_of literal) }
         ensures { IfSome result
@@ -236,11 +236,11 @@ impl Sharing {
         requires below { AreBelow (length self.old) (literal_operands literals.now) }
         ensures { AddsGates (literal_operands literals.now) self.old self.new result }
     {
-        if let Some(known) = self.known.get(&key).copied() {
+        if let Some(known) = self.known_for(&key) {
             return Ok(known);
         }
         let made = gate(alloc, &mut self.gates, joint, shorter(literals, &key))?;
-        self.known.insert(key, made)?;
+        self.keep(key, made)?;
         Ok(made)
     }
 }

@@ -16,10 +16,10 @@ use eq_core::{Equations, Gate, Operand};
 use gate_cones::cone;
 use std::alloc::Global;
 
-// How many terms of votes are looked at for each gate of the table, taken together: so the whole takes time linear in its size.
-const STEPS_PER_GATE: usize = 64;
+// How many steps votes may take for each gate of the table, all together: so time and memory are linear in its size.
+const STEPS_PER_GATE: usize = 32;
 
-// How many votes may be in one another.
+// Through how many levels votes are in one another.
 const MOST_LEVELS: usize = 512;
 
 /// A table whose conflict and top operands have at every set the values of those of this one. Of its gates those on which

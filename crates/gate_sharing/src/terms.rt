@@ -1,4 +1,4 @@
-//! Terms of two literals, and votes: lists of terms that all have one literal or its opposite.
+//! Terms of two literals, and votes: terms that all have one literal or its opposite.
 
 ghost use Rattle.std.specs.Prelude.{◌≡◌, ℕ, Bool, List, true, IfOk, IfSome};
 ghost use Rattle.eq_core.specs.Values.{joint_at};
@@ -48,29 +48,29 @@ pub(crate) fn term_of(gate: &Gate) -> Option<Term>
     Some(Term { first, second })
 }
 
-/// Two lists of literals.
+/// What is left of terms that all have one literal or its opposite.
 #[derive(Drop)]
 pub(crate) struct Sides {
-    /// What is all needed where a literal is true.
+    /// The opposites of what stands beside the literal.
     pub(crate) with: Vec<Literal>,
-    /// What is all needed where it is not.
+    /// The opposites of what stands beside its opposite.
     pub(crate) without: Vec<Literal>,
 }
 
-/// What of a list of terms none is true for: where a literal is true, all of one side, else all of the other, and one of them
-/// implies the other.
+/// Terms that all have one literal or its opposite. None of them is true exactly where all of the side with the literal are,
+/// if it is true, and all of the side without it, if it is not. One of the sides implies the other.
 #[derive(Drop)]
 pub(crate) struct Vote {
     /// The literal.
     pub(crate) test: Literal,
     /// The sides.
     pub(crate) sides: Sides,
-    /// Whether the side without the literal implies the one with it; else the one with it implies the one without.
+    /// Whether the side without the literal implies the one with it; else it is the other way round.
     pub(crate) rises: bool,
 }
 
-/// The vote by this literal. None where a term has neither it nor its opposite, where all have the same of both, and where no
-/// side has all literals of the other.
+/// The vote of the terms by this literal. None where a term has neither it nor its opposite, where all have the same of the
+/// two, and where neither side is seen to imply the other.
 pub(crate) fn vote_by(alloc: Global, test: Literal, terms: &[Term]) -> Result<Option<Vote>, Memory>
     ensures { IfOk result (λ found. IfSome found (λ vote. IsVoteBy test terms.now vote)) }
 {
@@ -88,7 +88,7 @@ pub(crate) fn vote_by(alloc: Global, test: Literal, terms: &[Term]) -> Result<Op
     Ok(Some(Vote { test, sides, rises }))
 }
 
-// The opposites of what stands beside the literal, and of what stands beside its opposite.
+// The sides of the terms by this literal. None where a term has neither it nor its opposite.
 fn split_by(alloc: Global, test: Literal, terms: &[Term]) -> Result<Option<Sides>, Memory>
     ensures { IfOk result (λ found. IfSome found
         (λ sides. AreSides (literal_of test) terms.now sides.with.items sides.without.items)) }
@@ -107,7 +107,7 @@ fn split_by(alloc: Global, test: Literal, terms: &[Term]) -> Result<Option<Sides
     Ok(Some(Sides { with, without }))
 }
 
-// Whether all of those are among these, or these are never all true.
+// Whether it is seen that all of those are true where all of these are: they are among them, or these are opposites in part.
 fn imply(alloc: Global, these: &[Literal], those: &[Literal]) -> Result<bool, Memory>
     ensures { IfOk result (λ yes. yes ≡ true → (set : List ℕ) (values : List Bool)
         → joint_at true set values (literal_operands these.now) ≡ true

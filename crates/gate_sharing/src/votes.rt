@@ -17,9 +17,9 @@ use eq_core::{Joint, Operand};
 use std::alloc::Global;
 
 impl Sharing {
-    /// The same as `simplest`, where the literals are no vote, where votes are in one another through more levels than these,
-    /// and where no steps are left. Else, with x for the literal of the vote, A for the side that is implied and B for the
-    /// other: x and A, or B. A and B are made in the same way.
+    /// The operand that is true where all of the literals are. Where they are a vote, that is the opposite of `x and A, or B`,
+    /// or that itself: x is the literal of the vote, and B implies A. A and B are made in the same way, through at most so
+    /// many levels, while steps are left. In all other cases it is made as `simplest` makes it.
     pub(crate) fn voted(
         &mut self,
         alloc: Global,

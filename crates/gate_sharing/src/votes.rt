@@ -101,7 +101,7 @@ impl Sharing {
         let Some(literals) = literals_for(alloc, &[first, second])? else {
             return Ok(Operand::Never);
         };
-        self.all_of(alloc, joint, &literals)
+        self.simplest(alloc, joint, &literals)
     }
 
     // The vote that these literals are, by a literal of the first term.
@@ -138,7 +138,8 @@ impl Sharing {
         Ok(Some(terms))
     }
 
-    // Adds the term of which the literal is the opposite, or the two of which it says that neither is true; true where it is so.
+    // Adds the term of which the literal is the opposite, or the two of which it says that neither is true. False where it is
+    // no such literal.
     fn add_terms(&self, literal: Literal, terms: &mut Vec<Term>) -> Result<bool, Memory>
         requires { IsBelow (length self.now) (literal_of literal) }
         ensures { IfOk result (λ added. added ≡ true

@@ -7,8 +7,8 @@ use Rattle.gate_sharing.specs.Literals.{literal_operands, AreEnough, AreNeverAll
 use Rattle.gate_sharing.proofs.Voting.{both_enough}
 use Rattle.gate_sharing.proofs.sharing.Sharing.both.Goals as goal
 
-pub all_of-requires : goal.all_of-requires
-all_of-requires c =
+pub simplest-requires : goal.simplest-requires
+simplest-requires c =
     let os : List Operand = operand_of c.args.first ∷ operand_of c.args.second ∷ [] in
     let n = length c.args.self.now in
     let enough : AreEnough os (literal_operands c.in-Some.literals.items) =

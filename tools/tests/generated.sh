@@ -23,5 +23,5 @@ equal "a comment and a clause that changed are seen" 'DEFINITIONS PROMISES_BY_CR
   "$(tools/write_pages --check | sed 's/:.*//' | paste -sd' ') status $(tools/write_pages --check >/dev/null; echo $?)"
 tools/write_pages
 equal "and written" '1 1 0' "$(grep -c '`limit_of`: the largest one' docs/trust/DEFINITIONS.md) $(grep -c '`foremost`' docs/trust/PROMISES_BY_CRATE.md) $(tools/write_pages --check >/dev/null; echo $?)"
-rm crates/fact_marks/must-fail/*.edit
-equal "an edit that is gone has to leave its line" '4 1' "$(tools/write_pages --check >/dev/null 2>said; echo $?) $(grep -c 'fact_marks any_assignment_named' said)"
+rm crates/flow_reasons/must-fail/*.edit
+equal "an edit that is gone has to leave its line" '4 1' "$(tools/write_pages --check >/dev/null 2>said; echo $?) $(grep -c 'flow_reasons any_assignment_named' said)"

@@ -4,7 +4,7 @@
 for tool in explain mutate short_memory measure costs.py; do usage $tool; done
 
 # These do their work without words.
-for tool in twins words memory_places; do
+for tool in twins words memory_places shape; do
   said=$(tools/$tool --help 2>&1)
   status="$? $(tools/$tool --help >/dev/full 2>/dev/null; echo $?) $(tools/$tool --no-such-word >/dev/null 2>&1; echo $?)"
   equal "$tool says its use with --help, and knows no other words" '0 4 2' "$status"

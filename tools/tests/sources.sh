@@ -20,6 +20,15 @@ else
 fi
 point "mutated models end with a status, and none for want of memory" tools/mutate "$ALTARICA" 3000
 
+# Files that import each other, functions with more than five parameters, crates: no more than there are.
+shape=$(tools/shape | tail -n 1)
+no_more() { [ "$(sed -n "s/.*$1 \([0-9]*\).*/\1/p" <<<"$shape")" -le "$2" ]; }
+point "at most 6 groups of files of a crate import each other" no_more circles 6
+point "no file of job_stages imports from one that imports from it" test "$(tools/shape | grep -c '^circle: job_stages')" = 0
+point "at most 2 files begin with a private function before a public one" no_more 'private first' 2
+point "at most 98 functions have more than five parameters" no_more 'six parameters' 98
+point "there are at most 70 crates" no_more crates 70
+
 # Of all definitions hardly two have one name.
 few_names() { [ "$(tools/words --all | grep -c '^[A-Za-z_]*: [a-z_]*/')" -le 40 ]; }
 point "at most 40 names of definitions have two meanings" few_names

@@ -31,8 +31,8 @@ use Rattle.job_inputs.specs.Flat.{command_of}
 use Rattle.replayer.specs.Settles.{last_standing, Settles, IsFaultLine}
 use Rattle.replayer.specs.SettlesInside.{AnswersSettle}
 use Rattle.job_inputs.specs.declared.commands.Command.{Command as Given}
-use Rattle.replayer.specs.declared.replaying.ReplayFault.{ReplayFault}
-use Rattle.replayer.specs.declared.replaying.ReplayFault.TheVariants as fault
+use Rattle.replayer.specs.declared.ends.ReplayFault.{ReplayFault}
+use Rattle.replayer.specs.declared.ends.ReplayFault.TheVariants as fault
 use Rattle.run_words.specs.declared.jobs.Asked.{Asked}
 use Rattle.run_words.specs.declared.verbs.Verb.TheVariants.{Explain}
 use Rattle.job_stages.specs.Stages.{Ready}

@@ -6,7 +6,7 @@ use Rattle.ar_io.specs.Outside.{Told}
 use Rattle.ar_io.specs.Writing.{SinkState, WroteFront}
 use Rattle.ar_io.proofs.Writing.{front_nothing}
 use Rattle.job_inputs.specs.Scripts.{Why, IsNoCommand, LacksWay, NamesNoEvent}
-use Rattle.replayer.specs.declared.replaying.End.TheVariants as end
+use Rattle.replayer.specs.declared.ends.End.TheVariants as end
 use Rattle.run_words.specs.Commands.{shape_of, is_script, is_list}
 use Rattle.run_words.specs.declared.jobs.Asked.{Asked}
 use Rattle.run_words.specs.Jobs.{IsAsked}

@@ -14,8 +14,8 @@ use Rattle.run_words.specs.declared.jobs.Asked.{Asked}
 use Rattle.run_words.specs.declared.verbs.Verb.{Verb}
 use Rattle.run_words.specs.declared.verbs.Verb.TheVariants.{Check, Flat, Replay, Fragment, Equations, Cuts, Make, Explain, CheckCuts, Modules}
 use Rattle.run_words.specs.Jobs.{IsAsked}
-use Rattle.zdd_families.specs.Families.{Family}
-use Rattle.zdd_families.specs.Sections.{IsMoreThan}
+use Rattle.zdd_nodes.specs.Families.{Family}
+use Rattle.zdd_nodes.specs.Sections.{IsMoreThan}
 use Rattle.altarica_run.specs.Follows.{Call, Gave, SinkRose}
 use Rattle.altarica_run.specs.Nodes.{HasConflict, HasEnough, IsTextOfCuts, OfAllReady}
 use Rattle.job_stages.specs.Stages.{Ready, Passes, lists_cuts}

@@ -10,3 +10,5 @@ pub mod Fronts
 pub mod Stages
 mod Tables
 pub mod Counting
+mod Firsts
+pub mod PairRuns

@@ -10,3 +10,5 @@ pub mod TextsInside
 pub mod Stages
 pub mod StagesInside
 pub mod Least
+pub mod Pairing
+pub mod Starts

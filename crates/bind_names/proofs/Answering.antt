@@ -11,7 +11,7 @@ use Rattle.source_meaning.specs.SoundBound.{IsSoundBound}
 use Rattle.source_meaning.specs.Systems.{declares}
 use Rattle.source_meaning.specs.declared.bound.Bound.{Bound}
 use Rattle.bind_scopes.specs.declared.scopes.Scopes.{Scopes}
-use Rattle.bind_values.specs.declared.whole.Values.{Values}
+use Rattle.bind_names.specs.declared.all_values.Values.{Values}
 use Rattle.bind_names.specs.Whole.{KeepsNames, AnswersRules, IsBoundOf}
 
 module _ (m : RootedModel) (units : List UnitPath) where

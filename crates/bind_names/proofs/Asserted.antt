@@ -32,7 +32,7 @@ use Rattle.source_meaning.specs.Systems.{AreAsserted}
 use Rattle.source_meaning.specs.Systems as s
 use Rattle.unit_rules.specs.Searched.{forms_of}
 use Rattle.unit_rules.proofs.Sited.{one_flat}
-use Rattle.bind_values.specs.Typed.{IsSoundIn}
+use Rattle.bind_names.specs.Typed.{IsSoundIn}
 use Rattle.bind_names.specs.Adding.{asserted_form, asserted_in, IsBoundAssertion, AddsAssertions}
 use Rattle.bind_names.specs.ListBound.{AreBoundAssertions}
 

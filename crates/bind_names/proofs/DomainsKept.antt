@@ -29,7 +29,7 @@ use Rattle.hierarchy.specs.Models.{RootedModel}
 use Rattle.hierarchy.specs.ModelsInside.{KeepsTextRules}
 use Rattle.hierarchy.specs.TypeDomains.{HasDomain, boolean, named}
 use Rattle.hierarchy.specs.declared.tree.Tree.{Tree}
-use Rattle.bind_values.specs.Typed.{IsSymbolIn}
+use Rattle.bind_names.specs.Typed.{IsSymbolIn}
 
 -- Domains are declared by items
 

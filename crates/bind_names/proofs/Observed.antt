@@ -31,9 +31,9 @@ use Rattle.hierarchy.specs.declared.tree.Tree.{Tree}
 use Rattle.source_meaning.specs.Numbering as has
 use Rattle.source_meaning.specs.BoundExpressions.{IsBoundExpression}
 use Rattle.source_meaning.specs.Kinds.{kind_of_type, kind_of_body}
-use Rattle.bind_values.specs.Typed.{IsTypedIn}
-use Rattle.bind_rules.specs.Owning.{observed_form, observed_in}
-use Rattle.bind_rules.proofs.Valued.{observer_has, observer_there}
+use Rattle.bind_names.specs.Typed.{IsTypedIn}
+use Rattle.bind_names.specs.Owning.{observed_form, observed_in}
+use Rattle.bind_names.proofs.Valued.{observer_has, observer_there}
 use Rattle.bind_names.specs.ListBound.{IsBoundObserver}
 
 -- what is listed among the observers is one

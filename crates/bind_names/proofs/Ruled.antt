@@ -16,8 +16,8 @@ use Rattle.hierarchy.specs.Units.{UnitPath}
 use Rattle.source_meaning.specs.Rules.{BreaksNaming, BreaksKinds, BreaksValue, BreaksTargets, BreaksNameRule, l10, l11, l12, l13, name_rules}
 use Rattle.bind_scopes.specs.Scopes.{AreScopes}
 use Rattle.bind_scopes.specs.declared.scopes.Scopes.{Scopes}
-use Rattle.bind_values.specs.Values.{AreNamesKept, AreValues, IsValued, values, outside}
-use Rattle.bind_values.specs.declared.whole.Values.{Values}
+use Rattle.bind_names.specs.Values.{AreNamesKept, AreValues, IsValued, values, outside}
+use Rattle.bind_names.specs.declared.all_values.Values.{Values}
 use Rattle.bind_names.specs.Whole.{KeepsNames, AnswersRules}
 
 pub rule10 : IsOneOf name_rules 10

@@ -19,8 +19,8 @@ use Rattle.hierarchy.specs.declared.tree.Tree.{Tree}
 use Rattle.hierarchy.specs.declared.tree.VarNode.{VarNode}
 use Rattle.source_meaning.specs.SoundBound.{IsSoundAct}
 use Rattle.source_meaning.specs.SoundBound as sound
-use Rattle.bind_values.specs.Typed.{kind_of_node, kind_of_number, IsSymbolIn, IsTypedIn, IsSoundIn}
-use Rattle.bind_values.specs.Typed as typed
+use Rattle.bind_names.specs.Typed.{kind_of_node, kind_of_number, IsSymbolIn, IsTypedIn, IsSoundIn}
+use Rattle.bind_names.specs.Typed as typed
 use Rattle.bind_names.specs.ListBound.{IsSoundVariable}
 
 -- the kinds of variables are those of the tree's nodes

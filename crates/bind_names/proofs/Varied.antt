@@ -19,8 +19,8 @@ use Rattle.hierarchy.specs.Paths.{thing_path}
 use Rattle.hierarchy.specs.Tie.{IsTreeOf, IsVariableNode}
 use Rattle.hierarchy.specs.declared.tree.Tree.{Tree}
 use Rattle.hierarchy.specs.declared.tree.VarNode.{VarNode}
-use Rattle.bind_values.specs.Values.{IsValue}
-use Rattle.bind_values.proofs.ValuesRight.{along_next, along_end}
+use Rattle.bind_names.specs.Values.{IsValue}
+use Rattle.bind_names.proofs.ValuesRight.{along_next, along_end}
 use Rattle.bind_names.specs.ListBound.{IsBoundVariable, IsSoundVariable, AreBoundVariables}
 use Rattle.bind_names.proofs.DomainsKept.{domain_kept, domain_symbols}
 

@@ -34,11 +34,11 @@ use Rattle.source_meaning.specs.Binding as has
 use Rattle.source_meaning.specs.Rules.{FindsNone}
 use Rattle.source_meaning.specs.Rules as way
 use Rattle.bind_scopes.specs.declared.scopes.Scopes.{Scopes}
-use Rattle.bind_values.specs.Settled.{AreSettled}
-use Rattle.bind_values.specs.declared.whole.Values.{Values}
+use Rattle.bind_names.specs.Settled.{AreSettled}
+use Rattle.bind_names.specs.declared.all_values.Values.{Values}
 use Rattle.source_meaning.specs.Systems.{IsPart}
 use Rattle.source_meaning.specs.Systems as is
-use Rattle.bind_values.specs.Typed.{IsTypedIn, IsSoundIn}
+use Rattle.bind_names.specs.Typed.{IsTypedIn, IsSoundIn}
 use Rattle.bind_names.specs.Ways.{IsBoundPart, IsBoundWay}
 
 -- Lists that are made item by item from another list

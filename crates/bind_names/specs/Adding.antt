@@ -13,7 +13,7 @@ use Rattle.hierarchy.specs.Units.{UnitPath}
 use Rattle.hierarchy.specs.Listing.{In}
 use Rattle.hierarchy.specs.declared.tree.Tree.{Tree}
 use Rattle.source_meaning.specs.BoundActs.{IsBoundInstruction}
-use Rattle.bind_values.specs.Typed.{IsSoundIn}
+use Rattle.bind_names.specs.Typed.{IsSoundIn}
 
 -- the instruction of an assertion
 abbrev pub asserted_form : MemberForm → Option Instr

@@ -21,7 +21,7 @@ use Rattle.hierarchy.specs.Paths.{thing_path}
 use Rattle.hierarchy.specs.declared.tree.Tree.{Tree}
 use Rattle.source_meaning.specs.Binding.{HasPlace}
 use Rattle.source_meaning.specs.Systems.{IsEvent}
-use Rattle.bind_values.specs.Typed.{IsTypedIn, IsSoundIn}
+use Rattle.bind_names.specs.Typed.{IsTypedIn, IsSoundIn}
 
 -- the event is sound over the variables, units and events of the tree
 pub record IsSoundEvent (tree : Tree) (e : DeclaredEvent) : Type 0 where

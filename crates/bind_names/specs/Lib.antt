@@ -6,3 +6,12 @@ pub mod Hiding
 pub mod ListBound
 pub mod Ways
 pub mod Whole
+pub mod Breaking
+pub mod Owning
+pub mod Testing
+pub mod Keeping
+pub mod Known
+pub mod Leaves
+pub mod Settled
+pub mod Typed
+pub mod Values

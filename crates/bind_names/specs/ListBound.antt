@@ -24,7 +24,7 @@ use Rattle.hierarchy.specs.declared.tree.VarNode.{VarNode}
 use Rattle.source_meaning.specs.Acts.{Placed, assigns_of, places_of}
 use Rattle.source_meaning.specs.Numbering.{HasObserverKind}
 use Rattle.source_meaning.specs.Systems.{IsVariable, AreAsserted, IsObserver}
-use Rattle.bind_values.specs.Typed.{IsTypedIn, IsSoundIn, IsSymbolIn}
+use Rattle.bind_names.specs.Typed.{IsTypedIn, IsSoundIn, IsSymbolIn}
 
 -- the variable by numbers is that of the tree
 pub record IsBoundVariable (m : RootedModel) (units : List UnitPath) (t : Thing) (x : Variable) : Type 0 where

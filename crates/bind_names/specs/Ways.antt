@@ -18,7 +18,7 @@ use Rattle.hierarchy.specs.Listing.{forms_at, variables, events}
 use Rattle.hierarchy.specs.declared.tree.Tree.{Tree}
 use Rattle.source_meaning.specs.Binding.{HasPlace}
 use Rattle.source_meaning.specs.Systems.{IsMember, IsPart}
-use Rattle.bind_values.specs.Typed.{IsTypedIn, IsSoundIn}
+use Rattle.bind_names.specs.Typed.{IsTypedIn, IsSoundIn}
 
 -- the bound part has the mark of the written one, and the number of the event that it names
 pub record IsBoundPart (m : RootedModel) (units : List UnitPath) (u : UnitPath) (part : Part)

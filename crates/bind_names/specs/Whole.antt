@@ -12,8 +12,8 @@ use Rattle.source_meaning.specs.SoundBound.{IsSoundBound}
 use Rattle.source_meaning.specs.Systems.{Declarations, AreOf}
 use Rattle.source_meaning.specs.declared.bound.Bound.{Bound}
 use Rattle.bind_scopes.specs.declared.scopes.Scopes.{Scopes}
-use Rattle.bind_values.specs.Settled.{AreSettled}
-use Rattle.bind_values.specs.declared.whole.Values.{Values}
+use Rattle.bind_names.specs.Settled.{AreSettled}
+use Rattle.bind_names.specs.declared.all_values.Values.{Values}
 
 -- the units keep the rules, and these are the values of their parameters and variables
 pub record KeepsNames (m : RootedModel) (units : List UnitPath) (scopes : Scopes) (values : Values) : Type 0 where

@@ -10,14 +10,15 @@ ghost use Rattle.hierarchy.specs.Listing.{all_in, asserted as asserted_by, form_
 ghost use Rattle.hierarchy.specs.Models.{RootedModel};
 ghost use Rattle.hierarchy.specs.Units.{UnitPath, members_at};
 ghost use Rattle.bind_scopes.specs.Scopes.{HasScopes};
-ghost use Rattle.bind_values.specs.Settled.{AreSettled};
+ghost use Rattle.bind_names.specs.Settled.{AreSettled};
 ghost use Rattle.bind_names.specs.Adding.{AddsAssertions, asserted_in};
 ghost use Rattle.bind_names.specs.ListBound.{AreBoundAssertions};
 
+use crate::all_values::Values;
+use crate::numbered_instructions::assertion;
 use ar_base::{BodyId, Memory, UnitId};
 use ar_syntax::{Instr, Member};
 use bind_scopes::{Scopes, members_of};
-use bind_values::{Values, assertion};
 use class_table::{Body, Owned, owned_at};
 use gts_core::Act;
 use std::alloc::Global;

@@ -4,20 +4,32 @@
 //! paths of all of them, and the symbols.
 #![tactic(auto)]
 
+mod all_values;
 mod assertion_list;
 mod binding;
+mod breaches;
+mod computing;
+mod event_rules;
+mod expression_rules;
 mod gathering;
 mod hiding;
+mod leaves;
 mod listing;
 mod lists;
+mod member_rules;
 mod members;
+mod numbered_expressions;
+mod numbered_instructions;
 mod observer_list;
+mod outside_domains;
 mod path_bytes;
 mod paths;
 mod rules;
 mod symbols;
+mod value_rules;
 mod variable_list;
 mod ways;
+mod written_rules;
 
 pub use assertion_list::assertions;
 pub use binding::bind;

@@ -8,16 +8,16 @@ ghost use Rattle.hierarchy.specs.Listing.{events as events_of};
 ghost use Rattle.hierarchy.specs.Paths.{thing_path};
 ghost use Rattle.hierarchy.specs.Tie.{IsTreeOf};
 ghost use Rattle.bind_scopes.specs.Scopes.{HasScopes};
-ghost use Rattle.bind_values.specs.Settled.{AreSettled};
+ghost use Rattle.bind_names.specs.Settled.{AreSettled};
 ghost use Rattle.bind_names.specs.Bound.{IsBoundEvent};
 ghost use Rattle.bind_names.specs.Gathering.{HasWays};
 
+use crate::all_values::Values;
 use crate::gathering::add_ways;
 use crate::hiding::hidden_events;
 use crate::paths::text_there;
 use ar_base::{Memory, Text};
 use bind_scopes::Scopes;
-use bind_values::Values;
 use gts_core::DeclaredEvent;
 use std::alloc::Global;
 

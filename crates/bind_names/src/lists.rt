@@ -4,16 +4,16 @@ ghost use Rattle.std.specs.Prelude.{List, IfOk};
 ghost use Rattle.hierarchy.specs.Models.{RootedModel};
 ghost use Rattle.hierarchy.specs.Units.{UnitPath};
 ghost use Rattle.bind_scopes.specs.Scopes.{HasScopes};
-ghost use Rattle.bind_values.specs.Settled.{AreSettled};
+ghost use Rattle.bind_names.specs.Settled.{AreSettled};
 ghost use Rattle.bind_names.specs.Whole.{IsBoundOf};
 
+use crate::all_values::Values;
 use crate::path_bytes::path_bytes;
 use crate::{
     assertions, event_paths, events, observers, prefixes, symbol_texts, unit_paths, variables,
 };
 use ar_base::{Cap, Memory};
 use bind_scopes::Scopes;
-use bind_values::Values;
 use source_meaning::Bound;
 use std::alloc::Global;
 

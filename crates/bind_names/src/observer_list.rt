@@ -8,14 +8,15 @@ ghost use Rattle.hierarchy.specs.Paths.{prefix};
 ghost use Rattle.hierarchy.specs.Tie.{IsPlainNode};
 ghost use Rattle.hierarchy.specs.Units.{UnitPath, Thing};
 ghost use Rattle.bind_scopes.specs.Scopes.{HasScopes};
-ghost use Rattle.bind_values.specs.Settled.{AreSettled};
+ghost use Rattle.bind_names.specs.Settled.{AreSettled};
 ghost use Rattle.bind_names.specs.ListBound.{IsBoundObserver};
 
+use crate::all_values::Values;
+use crate::numbered_expressions::expression;
 use crate::thing_path;
+use crate::value_rules::observed_at;
 use ar_base::{Memory, Text};
-use bind_rules::observed_at;
 use bind_scopes::Scopes;
-use bind_values::{Values, expression};
 use gts_core::Observer;
 use hierarchy::MemNode;
 use std::alloc::Global;

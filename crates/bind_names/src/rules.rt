@@ -6,10 +6,10 @@ ghost use Rattle.hierarchy.specs.Units.{UnitPath};
 ghost use Rattle.bind_scopes.specs.Scopes.{AreScopes, HasScopes};
 ghost use Rattle.bind_names.specs.Whole.{AnswersRules};
 
+use crate::all_values::{Values, valued};
+use crate::written_rules::{first_misnamed_in, first_misplaced_in, first_mistyped_in};
 use ar_base::{RuleFault, keep};
-use bind_rules::{first_misnamed_in, first_misplaced_in, first_mistyped_in};
 use bind_scopes::Scopes;
-use bind_values::{Values, valued};
 use std::alloc::Global;
 
 /// The values of a tree that keeps the rules L10 to L13. The least of them that is broken is told,

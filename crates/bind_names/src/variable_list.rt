@@ -5,12 +5,12 @@ ghost use Rattle.hierarchy.specs.Models.{RootedModel};
 ghost use Rattle.hierarchy.specs.Paths.{prefix};
 ghost use Rattle.hierarchy.specs.Tie.{IsTreeOf};
 ghost use Rattle.hierarchy.specs.Units.{UnitPath};
-ghost use Rattle.bind_values.specs.Values.{AreValues};
+ghost use Rattle.bind_names.specs.Values.{AreValues};
 ghost use Rattle.bind_names.specs.ListBound.{AreBoundVariables};
 
+use crate::all_values::Values;
 use crate::thing_path;
 use ar_base::{Memory, Text};
-use bind_values::Values;
 use gts_core::{Variable, copy_domain, value_at};
 use hierarchy::Tree;
 use std::alloc::Global;

@@ -12,14 +12,16 @@ ghost use Rattle.hierarchy.specs.Tie.{IsTreeOf};
 ghost use Rattle.hierarchy.specs.Walks.{is_event};
 ghost use Rattle.source_meaning.specs.Rules.{FindsNone};
 ghost use Rattle.bind_scopes.specs.Scopes.{HasScopes};
-ghost use Rattle.bind_values.specs.Settled.{AreSettled};
+ghost use Rattle.bind_names.specs.Settled.{AreSettled};
 ghost use Rattle.bind_names.specs.Ways.{IsBoundPart, AddsPart};
 ghost use Rattle.bind_names.specs.Gathering.{IsNamedWay};
 
+use crate::action as bind_action;
+use crate::all_values::Values;
+use crate::numbered_expressions::expression;
 use ar_base::{EventId, Memory, NameId, UnitId};
 use ar_syntax::{Member, Part};
 use bind_scopes::Scopes;
-use bind_values::{Values, action as bind_action, expression};
 use gts_core::DeclaredWay;
 use std::alloc::Global;
 

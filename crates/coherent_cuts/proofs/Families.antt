@@ -5,8 +5,8 @@ use Rattle.ar_base.specs.Lists.{Stands, IsOneOf}
 use Rattle.ar_base.proofs.Standing.{one_split, one_left, one_right, one_none, one_first, one_rest, one_cases}
 use Rattle.ar_base.proofs.Truths.{alike}
 use Rattle.ar_firing.specs.CutsInside.{UpTo}
-use Rattle.zdd_families.specs.Families.{Family, has, within}
-use Rattle.zdd_families.proofs.Members.{within_law}
+use Rattle.zdd_nodes.specs.Families.{Family, has, within}
+use Rattle.zdd_nodes.proofs.Members.{within_law}
 use Rattle.eq_core.specs.Values.{has_event}
 use Rattle.diagram_steps.specs.declared.trees.NumberedEdge.{NumberedEdge}
 use Rattle.diagram_steps.specs.declared.trees.NumberedTree.{NumberedTree}

@@ -3,15 +3,15 @@ use Rattle.std.proofs.Common.{◌≡◌, ◌<◌, ◌≤◌, ◌+◌, ⊎_elim, 
 use Rattle.std.specs.Int.{from_bool}
 use Rattle.ar_base.specs.Lists.{Stands, IsOneOf}
 use Rattle.ar_base.proofs.Standing.{stands_one, stands_none, stands_split, stands_within}
-use Rattle.zdd_families.specs.Families.{Family}
+use Rattle.zdd_nodes.specs.Families.{Family}
 use Rattle.zdd_nodes.specs.Nodes.{NodeId, Stored, family, IsFamilyNumber}
 use Rattle.eq_core.specs.Gates.{Operand, GateIs, Gate}
 use Rattle.eq_core.specs.Ordered.{AreOrdered}
 use Rattle.eq_core.specs.Values.{operand_at, joint_at, values_at, value_at}
 use Rattle.eq_core.specs.ValuesInside.{IsBelow}
 use Rattle.eq_core.proofs.Telling.{gate_value, place_below}
-use Rattle.gate_cones.specs.Cones.{own, named}
-use Rattle.gate_cones.specs.Marks.{AreConeMarks}
+use Rattle.eq_core.specs.Cones.{own, named}
+use Rattle.eq_core.specs.Marks.{AreConeMarks}
 use Rattle.diagram_steps.specs.Putting.{Extends}
 use Rattle.diagram_steps.specs.declared.trees.NumberedTree.{NumberedTree}
 use Rattle.diagram_steps.proofs.Growing.{kept, still}

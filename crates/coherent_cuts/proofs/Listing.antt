@@ -5,10 +5,10 @@ use Rattle.ar_base.specs.Sets.{Within}
 use Rattle.ar_base.proofs.Truths.{not_true, true_not}
 use Rattle.ar_firing.specs.Cuts.{IsLeast}
 use Rattle.ar_firing.specs.Forest.{ModeTree}
-use Rattle.zdd_families.specs.Families.{Family, has, within, without}
-use Rattle.zdd_families.specs.FamiliesInside.{IsFamily}
-use Rattle.zdd_families.proofs.Members.{within_law, has-without}
-use Rattle.zdd_families.proofs.Minimal.{Witness, within-through}
+use Rattle.zdd_nodes.specs.Families.{Family, has, within, without}
+use Rattle.zdd_nodes.specs.FamiliesInside.{IsFamily}
+use Rattle.zdd_nodes.proofs.Members.{within_law, has-without}
+use Rattle.zdd_nodes.proofs.Minimal.{Witness, within-through}
 use Rattle.firable_families.specs.FirableInside.{IsTrueUpTo, ListsLeastUpTo}
 use Rattle.firable_families.proofs.Few.{firable_of, small_of, firable_up_to}
 use Rattle.firable_families.proofs.Listing.{lists_listed}

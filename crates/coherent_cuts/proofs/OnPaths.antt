@@ -3,8 +3,8 @@ use Rattle.std.proofs.Common.{◌≡◌, ◌<◌, ◌≤◌, ◌⊎◌, inl, inr
 use Rattle.std.proofs.lemmas.Bool.{cases_eq}
 use Rattle.ar_base.specs.Lists.{Stands, IsOneOf}
 use Rattle.ar_base.proofs.Standing.{stands_one, stands_get, stands_map, stands_within}
-use Rattle.zdd_families.specs.Families.{holds}
-use Rattle.zdd_families.proofs.Members.{holds_law}
+use Rattle.zdd_nodes.specs.Families.{holds}
+use Rattle.zdd_nodes.proofs.Members.{holds_law}
 use Rattle.mode_nodes.specs.Diagrams.{mode_of}
 use Rattle.diagram_steps.specs.declared.trees.NumberedEdge.{NumberedEdge}
 use Rattle.diagram_steps.specs.declared.trees.NumberedTree.{NumberedTree}

@@ -4,10 +4,10 @@ use Rattle.std.proofs.lemmas.Bool.{and_parts, and_from, or_cases, cases_eq}
 use Rattle.ar_base.specs.Lists.{Stands, IsOneOf}
 use Rattle.ar_base.proofs.Standing.{stands_one, stands_within, one_first, only_item}
 use Rattle.ar_base.proofs.Truths.{alike}
-use Rattle.zdd_families.specs.Families.{Family, has, same, holds}
-use Rattle.zdd_families.specs.FamiliesInside.{union}
-use Rattle.zdd_families.proofs.Laws.{same-true, same-refl}
-use Rattle.zdd_families.proofs.Members.{has-union, holds_law, within_law}
+use Rattle.zdd_nodes.specs.Families.{Family, has, same, holds}
+use Rattle.zdd_nodes.specs.FamiliesInside.{union}
+use Rattle.zdd_nodes.proofs.Laws.{same-true, same-refl}
+use Rattle.zdd_nodes.proofs.Members.{has-union, holds_law, within_law}
 use Rattle.diagram_steps.specs.declared.trees.NumberedEdge.{NumberedEdge}
 use Rattle.diagram_steps.specs.declared.trees.NumberedTree.{NumberedTree}
 use Rattle.diagram_steps.specs.Trees.{edges_of}

@@ -1,7 +1,7 @@
 -- Events of one tree that are on no one path.
 use Rattle.std.specs.Prelude.{◌≡◌, ◌⊎◌, ◌↔◌, ◌<◌, ℕ, suc, true, List}
 use Rattle.ar_base.specs.Lists.{Stands}
-use Rattle.zdd_families.specs.Families.{Family, holds}
+use Rattle.zdd_nodes.specs.Families.{Family, holds}
 use Rattle.diagram_steps.specs.declared.trees.NumberedEdge.{NumberedEdge}
 use Rattle.diagram_steps.specs.declared.trees.NumberedTree.{NumberedTree}
 use Rattle.diagram_steps.specs.Trees.{edges_of}

@@ -2,7 +2,7 @@
 use Rattle.std.specs.Prelude.{◌≡◌, ◌&&◌, ◌||◌, ℕ, suc, Bool, true, false, List, Option, None}
 use Rattle.ar_base.specs.Lists.{Stands, IsOneOf}
 use Rattle.ar_firing.specs.CutsInside.{UpTo}
-use Rattle.zdd_families.specs.Families.{Family}
+use Rattle.zdd_nodes.specs.Families.{Family}
 use Rattle.zdd_nodes.specs.Nodes.{NodeId, Stored, family, IsFamilyNumber, IsSoundStore}
 use Rattle.eq_core.specs.Gates.{Operand, GateIs, Gate}
 use Rattle.eq_core.specs.Values.{value_at, joint_at, values_at}

@@ -7,8 +7,7 @@ ghost use Rattle.eq_core.specs.Views.{gate_of, operand_of};
 ghost use Rattle.coherent_cuts.specs.Coherent.{IsPlain, ArePlain, IsCoherent};
 
 use ar_base::Memory;
-use eq_core::{Gate, Operand};
-use gate_cones::cone;
+use eq_core::{Gate, Operand, cone};
 use std::alloc::Global;
 
 /// Whether neither the operand nor an operand of a gate that it rests on is negated. Then more events never make it false. The

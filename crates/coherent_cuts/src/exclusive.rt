@@ -1,7 +1,7 @@
 //! Events that are on no one path of their tree.
 
 ghost use Rattle.std.specs.Prelude.{◌≡◌, ◌↔◌, ◌≤◌, ◌<◌, ◌&&◌, ◌||◌, ℕ, List, true, IfOk, length};
-ghost use Rattle.zdd_families.specs.Families.{holds};
+ghost use Rattle.zdd_nodes.specs.Families.{holds};
 ghost use Rattle.zdd_nodes.specs.Nodes.{family, IsFamilyNumber};
 ghost use Rattle.diagram_steps.specs.Trees.{edges_of};
 ghost use Rattle.diagram_steps.specs.Putting.{Extends};

@@ -1,6 +1,6 @@
 -- Stores that were extended.
 use Rattle.std.proofs.Common.{◌≡◌, ℕ}
-use Rattle.zdd_families.specs.Families.{Family}
+use Rattle.zdd_nodes.specs.Families.{Family}
 use Rattle.zdd_nodes.specs.Nodes.{Stored, family, IsFamilyNumber, Grows}
 use Rattle.zdd_nodes.proofs.Growing as g
 use Rattle.diagram_steps.specs.Putting.{Extends}

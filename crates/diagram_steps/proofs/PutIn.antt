@@ -2,10 +2,10 @@
 use Rattle.std.proofs.Common.{◌≡◌, ◌⊎◌, ⊎_elim, inl, inr, ℕ, ◌<◌, Bool, true, false, cond, ◌||◌, eqb, nat_lt, List, [], ◌∷◌, refl, sym, ap, ◌∙◌, subst, arith, true≢false}
 use Rattle.std.specs.List.{AllByRecursion}
 use Rattle.std.proofs.lemmas.Bool.Decides.{nat_tests}
-use Rattle.zdd_families.specs.Families.{Family, has, same}
-use Rattle.zdd_families.specs.FamiliesInside.{node, IsAbove, union}
-use Rattle.zdd_families.proofs.Laws.{eqb-refl, same-refl, same-true, any_more, has-with}
-use Rattle.zdd_families.proofs.Members.{has-union}
+use Rattle.zdd_nodes.specs.Families.{Family, has, same}
+use Rattle.zdd_nodes.specs.FamiliesInside.{node, IsAbove, union}
+use Rattle.zdd_nodes.proofs.Laws.{eqb-refl, same-refl, same-true, any_more, has-with}
+use Rattle.zdd_nodes.proofs.Members.{has-union}
 use Rattle.diagram_steps.specs.Putting.{put_in, HasWith}
 
 -- each member of the set is above v

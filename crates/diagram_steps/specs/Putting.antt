@@ -1,6 +1,6 @@
 -- Sets of a family with one more event.
 use Rattle.std.specs.Prelude.{◌≡◌, ℕ, true, cond, eqb, nat_lt, List, [], ◌∷◌, length}
-use Rattle.zdd_families.specs.Families.{Family, has}
+use Rattle.zdd_nodes.specs.Families.{Family, has}
 use Rattle.zdd_nodes.specs.Nodes.{Stored, Grows}
 
 -- families were added, whichever they are, and nothing else changed

@@ -16,3 +16,7 @@ pub mod BuildsTell
 pub mod Never
 pub mod Existing
 pub mod BuildsOrdered
+pub mod Blocks
+pub mod TableSame
+pub mod Uses
+pub mod TableExisting

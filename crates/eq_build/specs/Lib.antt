@@ -6,3 +6,6 @@ pub mod Tells
 pub mod Views
 pub mod Answers
 pub mod Laws
+pub mod Steps
+pub mod Table
+pub mod TableLaws

@@ -10,10 +10,14 @@ mod entries;
 mod forms;
 mod groups;
 mod laws;
+mod rounds;
 mod steps;
+mod table_steps;
 
 pub use building::build;
 pub use entries::{BuildFault, Entry, MOST_GATES, made, one_of_alls, operand_for};
 pub use groups::Groups;
 pub use laws::building_laws;
+pub use rounds::needs_round;
 pub use steps::Step;
+pub use table_steps::one_table;

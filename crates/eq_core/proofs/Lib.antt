@@ -3,3 +3,4 @@ pub mod Valuing
 pub mod Ordering
 pub mod Joining
 pub mod Closing
+mod Marking

@@ -3,3 +3,5 @@ pub mod Values
 pub mod ValuesInside
 pub mod Ordered
 pub mod Views
+pub mod Cones
+pub mod Marks

@@ -6,8 +6,8 @@ use Rattle.ar_base.specs.Sets.{Within}
 use Rattle.ar_base.proofs.Standing.{stands_one, along_back}
 use Rattle.ar_firing.specs.Cuts.{IsLeast}
 use Rattle.ar_firing.specs.Forest.{ModeTree}
-use Rattle.zdd_families.specs.Families.{Family}
-use Rattle.zdd_families.specs.FamiliesInside.{IsFamily}
+use Rattle.zdd_nodes.specs.Families.{Family}
+use Rattle.zdd_nodes.specs.FamiliesInside.{IsFamily}
 use Rattle.eq_core.specs.Gates.{Operand, Gate}
 use Rattle.eq_core.specs.Ordered.{AreOrdered}
 use Rattle.eq_core.specs.Values.{value_at}

@@ -8,7 +8,7 @@ use Rattle.ar_base.specs.Lists.{Stands, AreDifferent}
 use Rattle.ar_base.specs.NumbersInside.{EventId, numbers_of}
 use Rattle.ar_base.proofs.Few.{few_below}
 use Rattle.ar_base.proofs.Standing.{stands_none, stands_left, stands_split, stands_next, stands_alone, stands_map_back}
-use Rattle.zdd_families.proofs.Laws.{eqb-refl}
+use Rattle.zdd_nodes.proofs.Laws.{eqb-refl}
 use Rattle.mode_diagrams.specs.Lacking.{same_event, tree_place_of, IsTreePut}
 use Rattle.event_order.specs.Renumbered.{AreDistinct, IsNamed}
 use Rattle.event_order.specs.Taking.{AreNumbersOf}

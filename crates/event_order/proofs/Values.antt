@@ -9,7 +9,7 @@ use Rattle.eq_core.specs.Ordered.{AreBelow, NamesEarlier, AreOrdered}
 use Rattle.eq_core.specs.Values.{has_event, value_of_gate, signed, operand_at, joint_at, values_at, value_at}
 use Rattle.eq_core.specs.ValuesInside.{IsBelow}
 use Rattle.eq_core.proofs.Telling.{gate_value, place_below}
-use Rattle.gate_cones.specs.Cones.{InGateCone, own, named}
+use Rattle.eq_core.specs.Cones.{InGateCone, own, named}
 use Rattle.event_order.specs.Renumbered.{IsNamed, IsNumberFor, IsRenamed, IsRenamedGate}
 use Rattle.event_order.specs.Ordered.{RestsOn}
 use Rattle.event_order.specs.Ordered.RestsOn.{own as names_it, inside}

@@ -13,7 +13,7 @@ use Rattle.eq_core.specs.ValuesInside.{IsBelow}
 use Rattle.eq_core.specs.Views.{operand_of}
 use Rattle.eq_core.specs.declared.joints.Operand.{Operand}
 use Rattle.eq_core.proofs.Telling.{place_below}
-use Rattle.gate_cones.specs.Cones.{InGateCone, own, named}
+use Rattle.eq_core.specs.Cones.{InGateCone, own, named}
 use Rattle.diagram_steps.specs.declared.trees.NumberedTree.{NumberedTree}
 use Rattle.diagram_steps.specs.Trees.{TreeHasEvent}
 use Rattle.event_order.specs.Ordered.{RestsOn, HasAllNames}

@@ -1,8 +1,8 @@
 -- Least sets over new numbers of events, and the same sets by their names.
 use Rattle.std.specs.Prelude.{ℕ, List, Option}
 use Rattle.ar_firing.specs.Forest.{ModeTree}
-use Rattle.zdd_families.specs.Families.{Family}
-use Rattle.zdd_families.specs.FamiliesInside.{IsFamily}
+use Rattle.zdd_nodes.specs.Families.{Family}
+use Rattle.zdd_nodes.specs.FamiliesInside.{IsFamily}
 use Rattle.eq_core.specs.Gates.{Operand, Gate}
 use Rattle.eq_core.specs.Ordered.{AreOrdered}
 use Rattle.eq_core.specs.ValuesInside.{IsBelow}

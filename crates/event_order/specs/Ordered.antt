@@ -7,7 +7,7 @@ use Rattle.eq_core.specs.Gates.{Operand, EventIs, Gate}
 use Rattle.eq_core.specs.Ordered.{AreOrdered}
 use Rattle.eq_core.specs.ValuesInside.{IsBelow}
 use Rattle.eq_core.specs.Views.{gate_of, operand_of}
-use Rattle.gate_cones.specs.Cones.{InGateCone}
+use Rattle.eq_core.specs.Cones.{InGateCone}
 use Rattle.diagram_steps.specs.declared.trees.NumberedTree.{NumberedTree}
 use Rattle.diagram_steps.specs.Trees.{TreeHasEvent}
 use Rattle.mode_diagrams.specs.Trees.{AreNumbered, AreApart}

@@ -11,7 +11,7 @@ use Rattle.hierarchy.specs.Walks.{Reaches, Nothing, Loops, NameLeads, NamesLead,
 use Rattle.hierarchy.specs.Listing.{AreUnits, is_inner, events, things_in}
 use Rattle.hierarchy.proofs.Places.{lists_closed, lists_first, lists_origin, made_named}
 use Rattle.hierarchy.proofs.Things.{flat_one, has_listed}
-use Rattle.unit_laws.proofs.Walking.{IsNameOf, kind_named, one_name}
+use Rattle.source_laws.proofs.Walking.{IsNameOf, kind_named, one_name}
 
 -- Where fewer statements are being followed, what is reached is reached
 

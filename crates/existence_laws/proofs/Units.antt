@@ -13,7 +13,7 @@ use Rattle.hierarchy.specs.Listing.{Unfolded, AreUnits, MakesUnit, ListsUnits, I
 use Rattle.unit_walks.specs.Growing.{AllShallow}
 use Rattle.unit_walks.specs.Unfolding.{Unfolds, whole, over, depth, deep, many}
 use Rattle.unit_walks.proofs.Fronts.{made_inside, are_shallow}
-use Rattle.unit_laws.proofs.Unfolding.{units_listed}
+use Rattle.source_laws.proofs.Unfolding.{units_listed}
 
 -- Fronts of a list
 

@@ -10,11 +10,11 @@ use Rattle.ar_firing.specs.Cuts.{HasAtMost}
 use Rattle.ar_firing.specs.CutsInside.{UpTo}
 use Rattle.ar_firing.specs.Forest.{ModeTree}
 use Rattle.ar_firing.specs.Listed.{AreListed}
-use Rattle.zdd_families.specs.Families.{Family}
-use Rattle.zdd_families.specs.FamiliesInside.{node, IsAbove}
-use Rattle.zdd_families.proofs.Filters.{IsFamily-filter}
-use Rattle.zdd_families.proofs.Laws.{filter-node, filter_alike, filter-none, every, has-filter-yes, IsAbove-filter}
-use Rattle.zdd_families.proofs.Minimal.{member_of}
+use Rattle.zdd_nodes.specs.Families.{Family}
+use Rattle.zdd_nodes.specs.FamiliesInside.{node, IsAbove}
+use Rattle.zdd_nodes.proofs.Filters.{IsFamily-filter}
+use Rattle.zdd_nodes.proofs.Laws.{filter-node, filter_alike, filter-none, every, has-filter-yes, IsAbove-filter}
+use Rattle.zdd_nodes.proofs.Minimal.{member_of}
 use Rattle.firable_families.specs.Firable.{AndUpTo}
 use Rattle.firable_families.specs.FirableInside.{IsFirableOf, IsFirableUpTo}
 use Rattle.firable_families.specs.Walk.{few_of, one_fewer}

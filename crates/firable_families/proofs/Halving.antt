@@ -1,12 +1,12 @@
 -- The step of the walk as its code takes it: the trees' families are nodes or lie above the least event.
 use Rattle.std.proofs.Common.{◌≡◌, ◌≢◌, ℕ, suc, ◌+◌, ◌<◌, true, false, not, cond, ◌||◌, eqb, List, [], ◌∷◌, Option, Some, map, filter, Result, refl, sym, ap, ap₂, ◌∙◌, subst, arith}
 use Rattle.std.specs.List.{list_any}
-use Rattle.zdd_families.specs.Families.{Family, holds}
-use Rattle.zdd_families.specs.FamiliesInside.{node, IsAbove}
-use Rattle.zdd_families.specs.Sections.{upper, lower, IsCounted}
-use Rattle.zdd_families.proofs.Laws.{IsAbove_set, filter-node, filter-none, filter-all, every, each_of, holds_here, holds-above}
-use Rattle.zdd_families.proofs.Sections.{IsCounted-lower, IsCounted-upper}
-use Rattle.zdd_families.proofs.Halves.{taken_off}
+use Rattle.zdd_nodes.specs.Families.{Family, holds}
+use Rattle.zdd_nodes.specs.FamiliesInside.{node, IsAbove}
+use Rattle.zdd_nodes.specs.Sections.{upper, lower, IsCounted}
+use Rattle.zdd_nodes.proofs.Laws.{IsAbove_set, filter-node, filter-none, filter-all, every, each_of, holds_here, holds-above}
+use Rattle.zdd_nodes.proofs.Sections.{IsCounted-lower, IsCounted-upper}
+use Rattle.zdd_nodes.proofs.Halves.{taken_off}
 use Rattle.zdd_nodes.specs.Nodes.{NodeId, Stored, Draws}
 use Rattle.zdd_nodes.specs.declared.NodeFault.{NodeFault}
 use Rattle.zdd_nodes.proofs.Growing.{Draws-weaker, counted_made}

@@ -10,12 +10,12 @@ use Rattle.ar_firing.specs.Listed.{AreListed}
 use Rattle.ar_firing.specs.Forest.{ModeTree}
 use Rattle.ar_firing.proofs.LeastSets.{within_then}
 use Rattle.ar_firing.proofs.OneListing.{ascending_same}
-use Rattle.zdd_families.specs.Families.{Family, same, within, has, minimal}
-use Rattle.zdd_families.specs.FamiliesInside.{order, IsInOrder, IsFamily}
-use Rattle.zdd_families.proofs.Filters.{IsFamily-filter}
-use Rattle.zdd_families.proofs.Laws.{same-true, same-refl, any_more, has-filter-yes}
-use Rattle.zdd_families.proofs.Members.{within_law, same_law, order_law, has-filter}
-use Rattle.zdd_families.proofs.Minimal.{witness, member_of, any_from}
+use Rattle.zdd_nodes.specs.Families.{Family, same, within, has, minimal}
+use Rattle.zdd_nodes.specs.FamiliesInside.{order, IsInOrder, IsFamily}
+use Rattle.zdd_nodes.proofs.Filters.{IsFamily-filter}
+use Rattle.zdd_nodes.proofs.Laws.{same-true, same-refl, any_more, has-filter-yes}
+use Rattle.zdd_nodes.proofs.Members.{within_law, same_law, order_law, has-filter}
+use Rattle.zdd_nodes.proofs.Minimal.{witness, member_of, any_from}
 use Rattle.firable_families.specs.FirableInside.{IsFirableUpTo, IsTrueUpTo, IsOfMembers, ListsLeastUpTo}
 
 -- the family lists the sets with P

@@ -6,10 +6,10 @@ use Rattle.std.proofs.lemmas.List.Folds.{list_any-append}
 use Rattle.std.proofs.lemmas.Option.{get_or_from_slice_get}
 use Rattle.ar_base.specs.Lists.{Stands}
 use Rattle.ar_base.proofs.Standing.{stands_map, stands_map_back}
-use Rattle.zdd_families.specs.Families.{Family, same, holds, has}
-use Rattle.zdd_families.specs.Sections.{upper, lower}
-use Rattle.zdd_families.proofs.Laws.{has-filter-yes, same-true, same-refl, any_more, holds_here, holds_more}
-use Rattle.zdd_families.proofs.Minimal.{any_from, witness}
+use Rattle.zdd_nodes.specs.Families.{Family, same, holds, has}
+use Rattle.zdd_nodes.specs.Sections.{upper, lower}
+use Rattle.zdd_nodes.proofs.Laws.{has-filter-yes, same-true, same-refl, any_more, holds_here, holds_more}
+use Rattle.zdd_nodes.proofs.Minimal.{any_from, witness}
 use Rattle.firable_families.proofs.Listing.{filter_part}
 use Rattle.firable_families.specs.Walk.{left, all_lower, all_taken, some_occurs, occurs, taken}
 

@@ -8,8 +8,8 @@ use Rattle.ar_base.specs.Sets.{Within}
 use Rattle.ar_firing.specs.Trees.{IsTree}
 use Rattle.ar_firing.specs.Listed.{AreListed}
 use Rattle.ar_firing.specs.Forest.{Row, ModeTree}
-use Rattle.zdd_families.specs.Families.{Family}
-use Rattle.zdd_families.specs.FamiliesInside.{IsFamily}
+use Rattle.zdd_nodes.specs.Families.{Family}
+use Rattle.zdd_nodes.specs.FamiliesInside.{IsFamily}
 use Rattle.firable_families.specs.FirableInside.{LeadsToMode, root, edge, HaveEvents, IsPathSet}
 use Rattle.firable_families.specs.Entries.{AreTreeEntries, HasEntries}
 use Rattle.firable_families.proofs.Listing.{lists_listed}

@@ -2,10 +2,10 @@
 use Rattle.std.proofs.Common.{◌≡◌, ◌⊎◌, ⊎_elim, ℕ, zero, suc, ◌+◌, ◌<◌, ◌≤◌, Bool, true, false, not, cond, ◌||◌, eqb, List, [], ◌∷◌, map, filter, refl, sym, ap, ap₂, ◌∙◌, subst, arith, true≢false}
 use Rattle.std.proofs.lemmas.Bool.{false_from_ne_true}
 use Rattle.std.specs.List.{AllByRecursion, list_all}
-use Rattle.zdd_families.specs.Families.{Family, holds, has}
-use Rattle.zdd_families.specs.FamiliesInside.{node}
-use Rattle.zdd_families.specs.Sections.{upper, lower}
-use Rattle.zdd_families.proofs.Laws.{filter-all}
+use Rattle.zdd_nodes.specs.Families.{Family, holds, has}
+use Rattle.zdd_nodes.specs.FamiliesInside.{node}
+use Rattle.zdd_nodes.specs.Sections.{upper, lower}
+use Rattle.zdd_nodes.proofs.Laws.{filter-all}
 use Rattle.firable_families.specs.Walk.{left, all_lower, all_taken, some_occurs, occurs, taken}
 use Rattle.firable_families.proofs.Merging.{lower_occurs, taken_occurs, remove}
 

@@ -11,11 +11,11 @@ use Rattle.ar_firing.specs.Forest.{ModeTree}
 use Rattle.ar_base.specs.Sets.{Within}
 use Rattle.ar_firing.specs.Trees.{HaveOwnEvents}
 use Rattle.ar_firing.specs.Listed.{AreListed}
-use Rattle.zdd_families.specs.Families.{Family, holds, has}
-use Rattle.zdd_families.proofs.Ascending.{IsAscending}
-use Rattle.zdd_families.proofs.Laws.{holds_here, holds_more}
-use Rattle.zdd_families.proofs.Members.{holds_law}
-use Rattle.zdd_families.proofs.Minimal.{witness}
+use Rattle.zdd_nodes.specs.Families.{Family, holds, has}
+use Rattle.zdd_nodes.proofs.Ascending.{IsAscending}
+use Rattle.zdd_nodes.proofs.Laws.{holds_here, holds_more}
+use Rattle.zdd_nodes.proofs.Members.{holds_law}
+use Rattle.zdd_nodes.proofs.Minimal.{witness}
 use Rattle.firable_families.specs.FirableInside.{LeadsToMode, root, edge, HaveEvents, IsPathSet, IsFirableOf}
 use Rattle.firable_families.specs.Walk.{left, occurs, AreTreeFamilies, AreEventsBelow}
 use Rattle.firable_families.proofs.Listing.{lists_listed, stands_has, has_stands}

@@ -2,12 +2,12 @@
 use Rattle.std.proofs.Common.{◌≡◌, ℕ, zero, suc, ◌+◌, ◌<◌, ◌≤◌, Bool, true, false, cond, ◌&&◌, eqb, List, [], ◌∷◌, refl, sym, ap, ap₂, ◌∙◌, subst, arith, eqb-true, lt_trans}
 use Rattle.std.specs.List.{AllByRecursion, list_all}
 use Rattle.std.proofs.lemmas.Bool.Decides.{nat_tests}
-use Rattle.zdd_families.specs.Families.{Family, has}
-use Rattle.zdd_families.specs.FamiliesInside.{node, IsAbove}
-use Rattle.zdd_families.specs.Sections.{section}
-use Rattle.zdd_families.proofs.Ascending.{IsAscending}
-use Rattle.zdd_families.proofs.Laws.{IsAbove_set, IsAbove-node}
-use Rattle.zdd_families.proofs.Sections.{AtLeast, section-low, section-with, section-without, low_all, section-nil}
+use Rattle.zdd_nodes.specs.Families.{Family, has}
+use Rattle.zdd_nodes.specs.FamiliesInside.{node, IsAbove}
+use Rattle.zdd_nodes.specs.Sections.{section}
+use Rattle.zdd_nodes.proofs.Ascending.{IsAscending}
+use Rattle.zdd_nodes.proofs.Laws.{IsAbove_set, IsAbove-node}
+use Rattle.zdd_nodes.proofs.Sections.{AtLeast, section-low, section-with, section-without, low_all, section-nil}
 use Rattle.firable_families.specs.Walk.{left, after, could, all_lower, all_taken, some_occurs}
 
 pub left_above : (v k i : ℕ) (fs : List Family) → v < i → IsAbove v (left k i fs)

@@ -6,12 +6,12 @@ use Rattle.std.proofs.lemmas.Bool.Decides.{nat_tests}
 use Rattle.std.proofs.lemmas.Bool.{false_from_ne_true}
 use Rattle.ar_base.specs.Lists.{Stands}
 use Rattle.ar_base.proofs.Standing.{stands_map}
-use Rattle.zdd_families.specs.Families.{Family, same, holds, has}
-use Rattle.zdd_families.specs.FamiliesInside.{node, IsFamily}
-use Rattle.zdd_families.specs.Sections.{upper, lower, IsCounted}
-use Rattle.zdd_families.proofs.Ascending.{IsAscending, ascends_from}
-use Rattle.zdd_families.proofs.Laws.{has-filter-yes, IsAbove_set, holds_here, holds-above, holds_more}
-use Rattle.zdd_families.proofs.Sections.{AtLeast}
+use Rattle.zdd_nodes.specs.Families.{Family, same, holds, has}
+use Rattle.zdd_nodes.specs.FamiliesInside.{node, IsFamily}
+use Rattle.zdd_nodes.specs.Sections.{upper, lower, IsCounted}
+use Rattle.zdd_nodes.proofs.Ascending.{IsAscending, ascends_from}
+use Rattle.zdd_nodes.proofs.Laws.{has-filter-yes, IsAbove_set, holds_here, holds-above, holds_more}
+use Rattle.zdd_nodes.proofs.Sections.{AtLeast}
 use Rattle.zdd_nodes.proofs.Order.{IsFamily-node, IsFamily-nil, IsFamily-unit}
 use Rattle.firable_families.specs.Walk.{left, after, could, all_lower, all_taken, some_occurs, occurs, taken}
 use Rattle.firable_families.proofs.Walking.{at_least, above_all, left_above, left_section}

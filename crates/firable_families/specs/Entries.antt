@@ -5,7 +5,7 @@ use Rattle.ar_base.specs.Sets.{Within}
 use Rattle.domains.specs.declared.Value.{Value}
 use Rattle.ar_meaning.specs.Runs.{Label}
 use Rattle.ar_firing.specs.Forest.{Row, ModeTree}
-use Rattle.zdd_families.specs.Families.{Family, has}
+use Rattle.zdd_nodes.specs.Families.{Family, has}
 use Rattle.firable_families.specs.FirableInside.{LeadsToMode, HaveEvents}
 
 -- a mode of the tree with the events of a path that leads to it

@@ -4,9 +4,9 @@ use Rattle.std.specs.List.{filter, list_any, list_all}
 use Rattle.ar_base.specs.Lists.{Stands, Along}
 use Rattle.ar_firing.specs.Forest.{ModeTree}
 use Rattle.ar_firing.specs.Listed.{AreListed}
-use Rattle.zdd_families.specs.Families.{Family, has, holds}
-use Rattle.zdd_families.specs.FamiliesInside.{node}
-use Rattle.zdd_families.specs.Sections.{upper, lower}
+use Rattle.zdd_nodes.specs.Families.{Family, has, holds}
+use Rattle.zdd_nodes.specs.FamiliesInside.{node}
+use Rattle.zdd_nodes.specs.Sections.{upper, lower}
 use Rattle.firable_families.specs.FirableInside.{IsPathSet}
 
 -- the event is in a set of the family

@@ -5,7 +5,7 @@ use Rattle.ar_base.specs.Lists.{Stands, IsOneOf}
 use Rattle.std.specs.Global.{Global}
 use Rattle.flow_blocks.specs.Blocks.{IsClass}
 use Rattle.flow_blocks.specs.Bits.{HasBit}
-use Rattle.flow_blocks.specs.declared.graph.Block.{Block}
+use Rattle.flow_blocks.specs.declared.dependences.Block.{Block}
 
 -- the members of each block
 abbrev pub members_of : List Block → List (List ℕ)

@@ -8,7 +8,7 @@ ghost use Rattle.ar_base.specs.Sets.{Ascends};
 ghost use Rattle.flow_blocks.specs.Table.{members_of, IsClassTable, IsPartTable, IsSelection};
 ghost use Rattle.flow_blocks.specs.Slots.{AreSlots};
 
-use crate::Block;
+use crate::dependences::Block;
 use crate::slots::{slot_of, slots};
 use ar_base::Memory;
 use lane_rows::has;

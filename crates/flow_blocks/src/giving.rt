@@ -10,8 +10,8 @@ ghost use Rattle.flow_blocks.specs.Bits.{row_of, AreAllDependences};
 ghost use Rattle.flow_blocks.specs.Table.{members_of, IsClassTable};
 ghost use Rattle.flow_blocks.specs.Waits.{Crosses, IsClassReady, WasGiven, IsWaiting, AreWaiting, IsClassTaken, left_to_give};
 
-use crate::Block;
 use crate::classing::ClassTable;
+use crate::dependences::Block;
 use crate::lists::empty_lists;
 use ar_base::{Memory, numbers_below};
 use std::alloc::Global;

@@ -1,31 +1,16 @@
 //! The classes of a graph, in order.
 
-ghost use Rattle.std.specs.Prelude.{◌≡◌, [], map, IfOk, IsTrue};
+ghost use Rattle.std.specs.Prelude.{[], map, IfOk};
 ghost use Rattle.flow_blocks.specs.Blocks.{Follow};
 ghost use Rattle.flow_blocks.specs.BlocksInside.{AreUsesBelow};
 
 use crate::classing::classes;
 use crate::closing::{close, direct_rows};
+use crate::dependences::{Block, Graph};
 use crate::giving::in_order;
 use crate::schedule::schedule;
 use ar_base::Memory;
 use std::alloc::Global;
-
-/// Which numbers below `count` depend on which.
-#[derive(Drop)]
-pub struct Graph {
-    /// How many numbers there are: they go from 0.
-    pub count: u32,
-    /// Pairs whose first number depends on the second.
-    pub uses: Vec<(u32, u32)>,
-}
-
-/// A class of mutual dependence.
-#[derive(Drop)]
-pub struct Block {
-    /// Its numbers, ascending.
-    pub members: Vec<u32>,
-}
 
 /// The classes of mutual dependence. Two numbers are in one class where they are equal or each
 /// depends on the other, directly or through others. A class comes after every class on which it

@@ -4,6 +4,7 @@
 
 mod classing;
 mod closing;
+mod dependences;
 mod giving;
 mod graph;
 mod laws;
@@ -13,5 +14,6 @@ mod schedule;
 mod search;
 mod slots;
 
-pub use graph::{Block, Graph, blocks};
+pub use dependences::{Block, Graph};
+pub use graph::blocks;
 pub use laws::block_laws;

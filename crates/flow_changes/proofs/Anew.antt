@@ -3,7 +3,7 @@ use Rattle.std.proofs.Common.{◌≡◌, ℕ, zero, suc, ◌+◌, ◌<◌, List,
 use Rattle.ar_base.specs.Lists.{Stands, IsOneOf}
 use Rattle.ar_base.specs.Sets.{Ascends}
 use Rattle.ar_base.proofs.Standing.{stands_none, stands_split, stands_within, stands_some, one_here}
-use Rattle.value_changes.specs.Picking.{KeepsOthers, ArePicked, AreWithin}
+use Rattle.flow_changes.specs.Picking.{KeepsOthers, ArePicked, AreWithin}
 
 -- one number more
 pub numbers_next : (i : ℕ) (old new : List ℕ) → new ≡ old ++ i ∷ []

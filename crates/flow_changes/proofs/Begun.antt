@@ -9,9 +9,9 @@ use Rattle.domains.specs.declared.Value.TheVariants.{Truth}
 use Rattle.gts_core.specs.declared.system.Variable.{Variable}
 use Rattle.gts_core.specs.declared.system.GtsParts.{GtsParts}
 use Rattle.flow_propagate.specs.NewValues.{written, AreNewValues}
-use Rattle.value_changes.specs.Picking.{AreWithin}
+use Rattle.flow_changes.specs.Picking.{AreWithin}
 use Rattle.flow_changes.specs.Known.{changing_numbers, Resets}
-use Rattle.value_changes.proofs.Picks.{set_same, set_other, drop_next, drop_none, one_taken, one_before, one_now}
+use Rattle.flow_changes.proofs.Picks.{set_same, set_other, drop_next, drop_none, one_taken, one_before, one_now}
 
 pub written_next : (cur : List Value) (new : List (VarId × Value)) (i : ℕ) (r : VarId × Value) → Stands new i r
     → written (set cur r.0.n r.1) (drop (i + 1) new) ≡ written cur (drop i new)

@@ -15,11 +15,11 @@ use Rattle.flow_propagate.specs.Plan.{IsPlan, Reader}
 use Rattle.flow_propagate.specs.declared.plan.Plan.{Plan}
 use Rattle.flow_changes.specs.Cone.{Knows, HasAll}
 use Rattle.flow_changes.specs.Known.{Touches}
-use Rattle.value_changes.specs.Picking.{KeepsOthers}
+use Rattle.flow_changes.specs.Picking.{KeepsOthers}
 use Rattle.flow_changes.specs.Queue.{IsQueue, PlaceWaits, TakesPlace}
 use Rattle.flow_changes.specs.Following.{WaitsInQueue, Looks, HasPlacesTo, ClosesUp, work_left}
 use Rattle.flow_changes.specs.declared.queue.Queue.{Queue}
-use Rattle.value_changes.proofs.Picks.{keeps_same, keeps_then, keeps_more}
+use Rattle.flow_changes.proofs.Picks.{keeps_same, keeps_then, keeps_more}
 use Rattle.flow_changes.proofs.Looks.{read_by, touches_total, looks_sound, taken}
 use Rattle.flow_changes.proofs.Puts.{aims}
 

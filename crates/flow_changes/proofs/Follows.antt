@@ -25,7 +25,7 @@ use Rattle.flow_propagate.specs.declared.plan.Plan.{Plan}
 use Rattle.flow_propagate.proofs.Written.{written_long}
 use Rattle.flow_changes.specs.Cone.{IsFlowAt, IsCone, Knows}
 use Rattle.flow_changes.specs.Known.{changing_numbers, Resets}
-use Rattle.value_changes.specs.Picking.{KeepsOthers, AreSet}
+use Rattle.flow_changes.specs.Picking.{KeepsOthers, AreSet}
 use Rattle.flow_changes.specs.Following.{ClosesUp}
 use Rattle.flow_changes.proofs.Written.{written_not, written_at, written_total}
 use Rattle.flow_changes.proofs.Begun.{new_inside}

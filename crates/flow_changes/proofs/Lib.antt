@@ -16,3 +16,8 @@ pub mod Given
 pub mod Closings
 pub mod Follows
 pub mod Anew
+pub mod Picks
+pub mod Coding
+pub mod Restored
+pub mod Turns
+pub mod Found

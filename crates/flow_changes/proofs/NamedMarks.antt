@@ -10,7 +10,7 @@ use Rattle.typed_expr.specs.declared.expr.Expr.{Expr, out-Expr}
 use Rattle.ar_meaning.specs.Dependence.{Tests, in_this, in_later}
 use Rattle.ar_meaning.specs.Found.{IsAnswer}
 use Rattle.gts_core.proofs.NamedVariables as named
-use Rattle.value_changes.specs.Restoring.{mark_at}
+use Rattle.flow_changes.specs.Restoring.{mark_at}
 use Rattle.flow_changes.specs.Known.{MarksEach}
 
 -- a mark that reads as set is set

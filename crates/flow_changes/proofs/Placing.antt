@@ -5,7 +5,7 @@ use Rattle.ar_base.specs.Lists.{Stands, IsOneOf}
 use Rattle.ar_base.proofs.Standing.{stands_one, one_none, one_first, one_left, one_right, one_split, only_item}
 use Rattle.flow_propagate.specs.Plan.{Reader}
 use Rattle.flow_changes.specs.Gathering.{GathersPlaces, ArePlacesTo}
-use Rattle.value_changes.proofs.Picks.{one_taken, one_before, one_now}
+use Rattle.flow_changes.proofs.Picks.{one_taken, one_before, one_now}
 use Rattle.flow_changes.proofs.Sorting.{one_moved, one_back}
 
 pub gathers_none : (places : List ℕ) (pairs : List Reader) (old : List ℕ) → GathersPlaces places (take 0 pairs) old old

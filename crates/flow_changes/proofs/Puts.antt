@@ -14,7 +14,7 @@ use Rattle.gts_core.specs.declared.system.Assign.{Assign}
 use Rattle.gts_core.specs.declared.system.GtsParts.{GtsParts}
 use Rattle.flow_changes.specs.Cone.{Knows}
 use Rattle.flow_changes.specs.Known.{PutsKnown, Touches, Applies, IsBarred, unmarked}
-use Rattle.value_changes.proofs.Picks.{set_same, set_other, keeps_same}
+use Rattle.flow_changes.proofs.Picks.{set_same, set_other, keeps_same}
 use Rattle.ar_meaning.specs.Reached.{YieldsWhereReached}
 
 -- one mark more

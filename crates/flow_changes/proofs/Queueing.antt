@@ -9,7 +9,7 @@ use Rattle.flow_propagate.specs.Plan.{Reader}
 use Rattle.flow_propagate.specs.Closing.{IsAddedAgain}
 use Rattle.flow_changes.specs.Queue.{NeverFalls, IsLater, PlaceWaits, IsQueue, TakesPlace, AddsPlaces, IsPairPlace}
 use Rattle.flow_changes.specs.declared.queue.Queue.{Queue}
-use Rattle.value_changes.proofs.Picks.{one_taken}
+use Rattle.flow_changes.proofs.Picks.{one_taken}
 
 -- a place of the list that is not less than the next one was not taken
 pub later_there : (list : List ℕ) (next q a : ℕ) → NeverFalls list → IsOneOf list q → Stands list next a → a ≤ q

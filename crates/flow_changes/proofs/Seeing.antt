@@ -16,10 +16,10 @@ use Rattle.flow_propagate.specs.Plan.{AreReaders, Reader, plain_pair}
 use Rattle.flow_propagate.proofs.Numbered.{read_there}
 use Rattle.flow_propagate.specs.NewValues.{IsRenewed}
 use Rattle.flow_changes.specs.Cone.{IsFlowAt, IsCone}
-use Rattle.value_changes.specs.Picking.{AreSet}
+use Rattle.flow_changes.specs.Picking.{AreSet}
 use Rattle.flow_propagate.specs.Marks.{AreMarked}
 use Rattle.flow_changes.specs.Gathering.{Sees, IsTargetOf, IsFollowed}
-use Rattle.value_changes.proofs.Picks.{set_same, set_other, same_lists, one_taken, one_before, one_now}
+use Rattle.flow_changes.proofs.Picks.{set_same, set_other, same_lists, one_taken, one_before, one_now}
 use Rattle.flow_changes.proofs.Puts.{unmarked_set, aims}
 
 module _ (n : ℕ) (marks : List Bool) (found : List ℕ) (m : AreMarked marks found) (s : Stands marks n false) where

@@ -12,7 +12,7 @@ use Rattle.gts_core.specs.Readings.{IsTotal}
 use Rattle.gts_core.specs.declared.system.Variable.{Variable}
 use Rattle.gts_core.specs.declared.system.GtsParts.{GtsParts}
 use Rattle.flow_propagate.specs.NewValues.{written, IsNewValue, IsRenewed}
-use Rattle.value_changes.proofs.Picks.{set_same, set_other, same_lists}
+use Rattle.flow_changes.proofs.Picks.{set_same, set_other, same_lists}
 use Rattle.flow_changes.specs.Known.{changing_numbers}
 
 -- a variable that gets no new value keeps its own

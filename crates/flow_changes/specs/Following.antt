@@ -12,7 +12,7 @@ use Rattle.gts_core.specs.declared.system.GtsParts.{GtsParts}
 use Rattle.flow_propagate.specs.declared.plan.Plan.{Plan}
 use Rattle.flow_changes.specs.Cone.{Knows, HasAll}
 use Rattle.flow_changes.specs.Known.{unmarked}
-use Rattle.value_changes.specs.Picking.{AreWithin}
+use Rattle.flow_changes.specs.Picking.{AreWithin}
 use Rattle.flow_changes.specs.Queue.{IsQueue, PlaceWaits, waiting_places}
 use Rattle.flow_changes.specs.declared.queue.Queue.{Queue}
 

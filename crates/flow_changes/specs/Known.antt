@@ -15,7 +15,7 @@ use Rattle.gts_core.specs.declared.system.Variable.{Variable}
 use Rattle.gts_core.specs.declared.system.Assign.{Assign}
 use Rattle.gts_core.specs.declared.system.GtsParts.{GtsParts}
 use Rattle.flow_changes.specs.Cone.{Knows}
-use Rattle.value_changes.specs.Picking.{KeepsOthers}
+use Rattle.flow_changes.specs.Picking.{KeepsOthers}
 
 -- how many are not marked
 abbrev pub unmarked : List Bool → ℕ

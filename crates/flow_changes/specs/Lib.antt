@@ -4,3 +4,7 @@ pub mod Queue
 pub mod Gathering
 pub mod Following
 pub mod Present
+pub mod Changes
+pub mod Codes
+pub mod Picking
+pub mod Restoring

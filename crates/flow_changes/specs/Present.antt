@@ -11,9 +11,9 @@ use Rattle.flow_propagate.specs.Determined.{IsDetermined, IsDeterminedBy}
 use Rattle.flow_propagate.specs.NewValues.{written}
 use Rattle.flow_propagate.specs.declared.propagation.PropagateFault.{PropagateFault}
 use Rattle.flow_propagate.specs.declared.propagation.PropagateFault.TheVariants as propagates
-use Rattle.value_changes.specs.Restoring.{TellsChanges}
+use Rattle.flow_changes.specs.Restoring.{TellsChanges}
 use Rattle.flow_changes.specs.declared.present.Present.{Present}
-use Rattle.value_changes.specs.declared.changes.Changes.{Changes}
+use Rattle.flow_changes.specs.declared.changes.Changes.{Changes}
 
 -- the total valuation
 abbrev pub present_values : Present → List Value

@@ -8,7 +8,7 @@ ghost use Rattle.gts_core.specs.Readings.{IsTotal};
 ghost use Rattle.gts_core.specs.Sound.{IsSound};
 ghost use Rattle.gts_core.specs.View.{net_of, assign_of};
 ghost use Rattle.gts_core.specs.declared.system.Assign.{Assign as Assigns};
-ghost use Rattle.value_changes.specs.Picking.{AreWithin};
+ghost use Rattle.flow_changes.specs.Picking.{AreWithin};
 
 use domains::Value;
 use gts_core::{Assign, GtsParts, are_met, value_in};

@@ -14,7 +14,7 @@ ghost use Rattle.gts_core.specs.declared.system.GtsParts.{GtsParts as GtsPart};
 ghost use Rattle.flow_propagate.specs.Plan.{IsPlan, Reader};
 ghost use Rattle.flow_changes.specs.Cone.{Knows};
 ghost use Rattle.flow_changes.specs.Known.{Touches};
-ghost use Rattle.value_changes.specs.Picking.{KeepsOthers};
+ghost use Rattle.flow_changes.specs.Picking.{KeepsOthers};
 ghost use Rattle.flow_changes.specs.Queue.{IsQueue};
 ghost use Rattle.flow_changes.specs.Following.{Looks, ClosesUp, HasPlacesTo};
 

@@ -7,7 +7,7 @@ ghost use Rattle.flow_propagate.specs.Plan.{AreReaders, Reader, plain_pair};
 ghost use Rattle.flow_propagate.specs.NewValues.{AreNewValues, IsRenewed};
 ghost use Rattle.flow_changes.specs.Cone.{IsCone};
 ghost use Rattle.flow_changes.specs.Known.{changing_numbers};
-ghost use Rattle.value_changes.specs.Picking.{AreWithin};
+ghost use Rattle.flow_changes.specs.Picking.{AreWithin};
 ghost use Rattle.flow_propagate.specs.Marks.{AreMarked};
 ghost use Rattle.flow_changes.specs.Gathering.{Sees, IsTargetOf, IsFollowed};
 

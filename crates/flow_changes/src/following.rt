@@ -6,7 +6,7 @@ ghost use Rattle.flow_propagate.specs.Determined.{IsDetermined, IsDeterminedBy};
 ghost use Rattle.flow_propagate.specs.NewValues.{AreNewValues, written};
 ghost use Rattle.flow_propagate.specs.Plan.{IsPlan};
 ghost use Rattle.flow_changes.specs.Cone.{IsCone};
-ghost use Rattle.value_changes.specs.Picking.{KeepsOthers};
+ghost use Rattle.flow_changes.specs.Picking.{KeepsOthers};
 
 use crate::checking::all_hold;
 use crate::closing::close;

@@ -10,7 +10,7 @@ ghost use Rattle.ar_meaning.specs.Reached.{YieldsWhereReached};
 ghost use Rattle.gts_core.specs.View.{assign_of, condition_of};
 ghost use Rattle.flow_changes.specs.Cone.{Knows};
 ghost use Rattle.flow_propagate.specs.Determined.{marked_value_at};
-ghost use Rattle.value_changes.specs.Restoring.{mark_at};
+ghost use Rattle.flow_changes.specs.Restoring.{mark_at};
 
 use ar_base::{Memory, VarId};
 use domains::Value;

@@ -1,8 +1,10 @@
 //! What changes of a state change: from what a state determines to what it determines with new values, and the way back.
 #![tactic(auto)]
 
+mod changes;
 mod checking;
 mod closing;
+mod codes;
 mod cone;
 mod following;
 mod gathering;
@@ -12,8 +14,11 @@ mod picking;
 mod present;
 mod putting;
 mod queue;
+mod restoring;
 mod starting;
 mod trying;
 mod whole;
 
+pub use changes::{Changes, changes_at};
 pub use present::{Present, make_present, propagate_from, restore};
+pub use restoring::restore;

@@ -1,7 +1,7 @@
 //! Items that are picked out of lists by their numbers, and written back.
 
 ghost use Rattle.std.specs.Prelude.{◌≡◌, ◌<◌, ℕ, List, length, IfOk};
-ghost use Rattle.value_changes.specs.Picking.{KeepsOthers, ArePicked, AreSet, AreWithin};
+ghost use Rattle.flow_changes.specs.Picking.{KeepsOthers, ArePicked, AreSet, AreWithin};
 
 use ar_base::Memory;
 use std::alloc::Global;

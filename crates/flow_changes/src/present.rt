@@ -7,18 +7,18 @@ ghost use Rattle.gts_core.specs.Sound.{IsSound};
 ghost use Rattle.flow_propagate.specs.Answers.{IsState};
 ghost use Rattle.flow_propagate.specs.NewValues.{AreNewValues, written};
 ghost use Rattle.flow_propagate.specs.Plan.{IsPlan};
-ghost use Rattle.value_changes.specs.Restoring.{restored, marks_turned};
+ghost use Rattle.flow_changes.specs.Restoring.{restored, marks_turned};
 ghost use Rattle.flow_changes.specs.Present.{present_values, known_of, IsPresent, Presents, IsFaultOf, Propagates};
 
 use crate::cone::cone;
 use crate::trying::attempt;
 use crate::whole::whole;
+use crate::{Changes, restore as write_back};
 use ar_base::{Memory, VarId};
 use domains::Value;
 use flow_propagate::{Determined, Plan, PropagateFault, determine};
 use gts_core::{Gts, GtsParts, Valuation};
 use std::alloc::Global;
-use value_changes::{Changes, restore as write_back};
 
 /// What a state determines, kept so that what a changed state determines costs what the change reaches.
 #[derive(Drop)]

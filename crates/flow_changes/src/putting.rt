@@ -8,7 +8,7 @@ ghost use Rattle.ar_meaning.specs.Dependence.{Names};
 ghost use Rattle.gts_core.specs.Readings.{IsTotal};
 ghost use Rattle.gts_core.specs.Sound.{IsSound};
 ghost use Rattle.gts_core.specs.View.{assign_of};
-ghost use Rattle.value_changes.specs.Picking.{KeepsOthers};
+ghost use Rattle.flow_changes.specs.Picking.{KeepsOthers};
 ghost use Rattle.flow_changes.specs.Known.{PutsKnown, Touches, Applies, IsBarred, IsSetBarred};
 
 use crate::known::{Known, yielded};

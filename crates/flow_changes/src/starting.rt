@@ -5,7 +5,7 @@ ghost use Rattle.ar_base.specs.Lists.{IsOneOf};
 ghost use Rattle.ar_base.specs.Numbers.{VarId as VarIds};
 ghost use Rattle.domains.specs.declared.Value.{Value as Values};
 ghost use Rattle.flow_propagate.specs.NewValues.{written};
-ghost use Rattle.value_changes.specs.Picking.{AreSet, AreWithin};
+ghost use Rattle.flow_changes.specs.Picking.{AreSet, AreWithin};
 ghost use Rattle.flow_changes.specs.Known.{changing_numbers, Resets};
 
 use ar_base::VarId;

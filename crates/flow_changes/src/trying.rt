@@ -7,17 +7,17 @@ ghost use Rattle.flow_propagate.specs.Determined.{IsDetermined};
 ghost use Rattle.flow_propagate.specs.NewValues.{AreNewValues};
 ghost use Rattle.flow_propagate.specs.Plan.{IsPlan};
 ghost use Rattle.flow_changes.specs.Cone.{IsCone};
-ghost use Rattle.value_changes.specs.Picking.{KeepsOthers, ArePicked, AreWithin};
+ghost use Rattle.flow_changes.specs.Picking.{KeepsOthers, ArePicked, AreWithin};
 ghost use Rattle.flow_changes.specs.Present.{Propagates};
 
 use crate::following::follow;
 use crate::picking::{picked, put_back};
+use crate::{Changes, changes_at};
 use ar_base::{Memory, VarId};
 use domains::Value;
 use flow_propagate::{Determined, Plan};
 use gts_core::GtsParts;
 use std::alloc::Global;
-use value_changes::{Changes, changes_at};
 
 /// The values and marks of the members of a cone, in their order.
 #[derive(Drop)]

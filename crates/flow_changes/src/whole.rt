@@ -5,16 +5,16 @@ ghost use Rattle.flow_propagate.specs.Determined.{IsDetermined};
 ghost use Rattle.flow_propagate.specs.NewValues.{AreNewValues, written};
 ghost use Rattle.flow_propagate.specs.Plan.{IsPlan};
 ghost use Rattle.flow_changes.specs.Known.{changing_numbers};
-ghost use Rattle.value_changes.specs.Picking.{AreWithin};
+ghost use Rattle.flow_changes.specs.Picking.{AreWithin};
 ghost use Rattle.flow_changes.specs.Present.{IsFaultOf, Propagates};
 
 use crate::starting::write_new;
+use crate::{Changes, changes_at};
 use ar_base::{Memory, VarId, numbers_below};
 use domains::Value;
 use flow_propagate::{Determined, Plan, PropagateFault, determine};
 use gts_core::{Gts, Valuation};
 use std::alloc::Global;
-use value_changes::{Changes, changes_at};
 
 // Finds what the new state determines, and tells what changed. After a refusal all is as it was.
 pub(crate) fn whole(

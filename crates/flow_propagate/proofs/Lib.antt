@@ -17,3 +17,5 @@ pub mod Determining
 pub mod Marking
 pub mod Hearing
 pub mod Written
+mod Others
+mod RowStarting

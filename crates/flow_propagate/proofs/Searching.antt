@@ -21,7 +21,7 @@ use Rattle.gts_core.specs.declared.system.Assign.{Assign}
 use Rattle.gts_core.specs.declared.system.GtsParts.{GtsParts}
 use Rattle.typed_expr.specs.Rows.{Rows, known_row_at}
 use Rattle.flow_propagate.specs.Table.{TableHolds, AreFacts}
-use Rattle.fact_rows.specs.Rows.{IsTwo}
+use Rattle.flow_propagate.specs.Rows.{IsTwo}
 use Rattle.flow_propagate.specs.Searches.{LeavesADomain, LeavesTargetDomain, IsLeastTarget}
 
 module _ (p : GtsParts) (t : List Value) (rows : Rows) (facts : AreFacts (net_of p) t rows) where

@@ -12,7 +12,7 @@ use Rattle.gts_core.proofs.Viewing.{variable_there, variable_back, are_numbered}
 use Rattle.gts_core.specs.declared.system.Variable.{Variable}
 use Rattle.gts_core.specs.declared.system.GtsParts.{GtsParts}
 use Rattle.typed_expr.specs.Rows.{Rows, known_row_at}
-use Rattle.fact_rows.specs.Rows.{Starts}
+use Rattle.flow_propagate.specs.Rows.{Starts}
 use Rattle.flow_propagate.specs.Table.{TableHolds, IsSoundTable}
 
 pub one_there : (v : Value) → Contains (v ∷ []) v

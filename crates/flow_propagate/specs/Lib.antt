@@ -10,3 +10,4 @@ pub mod Closing
 pub mod Determined
 pub mod NewValues
 pub mod Marks
+pub mod Rows

@@ -4,7 +4,7 @@ use Rattle.ar_base.specs.Lists.{Stands, IsOneOf}
 use Rattle.ar_meaning.specs.Dependence.{AreUses, flow_count}
 use Rattle.ar_meaning.specs.DependenceInside.{IsReadBy}
 use Rattle.flow_blocks.specs.Blocks.{Follow}
-use Rattle.flow_blocks.specs.declared.graph.Block.{Block}
+use Rattle.flow_blocks.specs.declared.dependences.Block.{Block}
 use Rattle.gts_core.specs.View.{net_of}
 use Rattle.gts_core.specs.declared.system.Assign.{Assign}
 use Rattle.gts_core.specs.declared.system.GtsParts.{GtsParts}

@@ -10,6 +10,7 @@ ghost use Rattle.flow_propagate.specs.Table.{AreFacts, Moves, IsClosed};
 ghost use Rattle.flow_propagate.specs.Searches.{IsLeastTarget, LeavesTargetDomain};
 ghost use Rattle.flow_propagate.specs.Closing.{IsWorklist, IsWorkSettled, LooksAt, IsHeard, Hears};
 
+use crate::fact_rows::first_rows;
 use crate::facts::apply;
 use crate::pairs::Runs;
 use crate::plan::Plan;
@@ -18,7 +19,6 @@ use crate::table::Table;
 use crate::worklist::{Worklist, add_readers, all_waiting, take};
 use ar_base::Memory;
 use domains::Value;
-use fact_rows::first_rows;
 use gts_core::GtsParts;
 use std::alloc::Global;
 use typed_expr::Budget;

@@ -4,6 +4,7 @@
 mod closing;
 mod dependence;
 mod determined;
+mod fact_rows;
 mod facts;
 mod flows;
 mod naming;

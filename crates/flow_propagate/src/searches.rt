@@ -11,9 +11,9 @@ ghost use Rattle.gts_core.specs.Sound.{IsSound};
 ghost use Rattle.gts_core.specs.View.{net_of};
 ghost use Rattle.flow_propagate.specs.Table.{AreFacts};
 
+use crate::fact_rows::is_two;
 use crate::table::Table;
 use domains::{Domain, Value};
-use fact_rows::is_two;
 use gts_core::GtsParts;
 
 // The least flow with two values.

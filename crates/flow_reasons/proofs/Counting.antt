@@ -2,8 +2,8 @@
 use Rattle.std.proofs.Common.{◌≡◌, ◌<◌, ◌≤◌, ℕ, zero, suc, Bool, true, false, List, [], ◌∷◌, length, if◌then◌else◌, refl, sym, ap, subst, arith}
 use Rattle.ar_base.specs.Lists.{Stands}
 use Rattle.ar_base.proofs.Standing.{stands_none}
-use Rattle.fact_marks.specs.declared.Mark.{Mark}
-use Rattle.fact_marks.specs.Marks.{is_fact, HasNoFact}
+use Rattle.flow_reasons.specs.declared.fact_marks.Mark.{Mark}
+use Rattle.flow_reasons.specs.FactMarks.{is_fact, HasNoFact}
 use Rattle.flow_reasons.specs.Marks.{unknown_count}
 
 abbrev one : Mark → ℕ

@@ -10,9 +10,9 @@ use Rattle.ar_base.proofs.Sets.{ascends_push}
 use Rattle.domains.specs.declared.Value.{Value}
 use Rattle.gts_core.specs.declared.system.Assign.{Assign}
 use Rattle.gts_core.specs.declared.system.GtsParts.{GtsParts}
-use Rattle.fact_marks.specs.declared.Mark.{Mark}
+use Rattle.flow_reasons.specs.declared.fact_marks.Mark.{Mark}
 use Rattle.flow_reasons.specs.Bringing.{Brings, BringsAt, AreBringing, BringAll}
-use Rattle.fact_marks.proofs.Placing.{pushed_cases, pushed_old, pushed_last, ascends_none, before_next}
+use Rattle.flow_reasons.proofs.Placing.{pushed_cases, pushed_old, pushed_last, ascends_none, before_next}
 
 module _ (p : GtsParts) (values : List Value) (marks : List Mark) where
   pub bring_none : (xs : List ℕ) → AreBringing p values marks (take 0 xs) []

@@ -18,8 +18,8 @@ use Rattle.gts_core.specs.View.{numbered, condition_of, assign_of}
 use Rattle.gts_core.specs.declared.system.Assign.{Assign}
 use Rattle.gts_core.proofs.Numbering.{yields_numbered, yields_back}
 use Rattle.gts_core.proofs.Tests.{turned_answer}
-use Rattle.fact_marks.specs.declared.Mark.{Mark}
-use Rattle.fact_marks.specs.Marks.{is_fact, is_fact_found, HasNoFact}
+use Rattle.flow_reasons.specs.declared.fact_marks.Mark.{Mark}
+use Rattle.flow_reasons.specs.FactMarks.{is_fact, is_fact_found, HasNoFact}
 use Rattle.flow_reasons.specs.Marks.{fact_value_at, Known}
 use Rattle.flow_reasons.specs.Bringing.{Brings}
 

@@ -15,3 +15,5 @@ mod SeenLists
 mod Standing
 pub mod Sufficing
 mod Totals
+pub mod Marking
+pub mod Placing

@@ -23,11 +23,11 @@ use Rattle.gts_core.specs.declared.system.GtsParts.{GtsParts}
 use Rattle.gts_core.proofs.Viewing.{variable_there, variables_long, are_numbered}
 use Rattle.flow_propagate.specs.Plan.{AreReaders}
 use Rattle.flow_reasons.specs.Answers.{numbers_of, reason_of, reasons_of}
-use Rattle.fact_marks.specs.Marks.{is_fact}
+use Rattle.flow_reasons.specs.FactMarks.{is_fact}
 use Rattle.flow_reasons.specs.Marks.{IsStanding, IsAddedIn, MarkSays, AreLastMarks}
 use Rattle.flow_reasons.specs.Resting.{came_before, IsRestRow, HaveRests, reason_made}
-use Rattle.fact_marks.specs.declared.Mark.{Mark}
-use Rattle.fact_marks.specs.declared.Mark.TheVariants.{Unknown, Given, Added}
+use Rattle.flow_reasons.specs.declared.fact_marks.Mark.{Mark}
+use Rattle.flow_reasons.specs.declared.fact_marks.Mark.TheVariants.{Unknown, Given, Added}
 use Rattle.flow_reasons.specs.declared.reason.Reason.{Reason}
 use Rattle.flow_reasons.proofs.Standing.{reset_value}
 

@@ -12,11 +12,11 @@ use Rattle.gts_core.specs.declared.system.Assign.{Assign}
 use Rattle.gts_core.specs.declared.system.GtsParts.{GtsParts}
 use Rattle.flow_propagate.specs.Plan.{AreReaders}
 use Rattle.flow_reasons.specs.Answers.{numbers_of}
-use Rattle.fact_marks.specs.Marks.{IsTo}
-use Rattle.fact_marks.specs.declared.Mark.{Mark}
-use Rattle.fact_marks.specs.declared.Mark.TheVariants.{Unknown, Given, Added}
+use Rattle.flow_reasons.specs.FactMarks.{IsTo}
+use Rattle.flow_reasons.specs.declared.fact_marks.Mark.{Mark}
+use Rattle.flow_reasons.specs.declared.fact_marks.Mark.TheVariants.{Unknown, Given, Added}
 use Rattle.flow_reasons.specs.Resting.{came_before, IsReasonRest, HasRest, IsRestRow, AreRests, IsMarkedRest, added, AreEmpty, AddsRest}
-use Rattle.fact_marks.proofs.Placing.{set_here, set_back, take_stands, pushed_cases, pushed_old, pushed_last, ascends_none}
+use Rattle.flow_reasons.proofs.Placing.{set_here, set_back, take_stands, pushed_cases, pushed_old, pushed_last, ascends_none}
 
 -- whether the assignment added the first fact and the other one came before
 pub rest_told : (m : Mark) (a : ℕ) (o : Mark) → IsMarkedRest m a o ⊎ (IsMarkedRest m a o → ⊥)

@@ -24,13 +24,13 @@ use Rattle.gts_core.specs.declared.system.GtsParts.{GtsParts}
 use Rattle.gts_core.proofs.Viewing.{variable_there, variable_back, are_numbered}
 use Rattle.flow_propagate.specs.Plan.{AreReaders}
 use Rattle.flow_propagate.proofs.Looking.{one_or_not}
-use Rattle.fact_marks.specs.declared.Mark.{Mark}
-use Rattle.fact_marks.specs.declared.Mark.TheVariants.{Unknown, Given, Added}
-use Rattle.fact_marks.specs.Marks.{is_fact, HasNoFact, IsMarkedBy, MarksAll}
+use Rattle.flow_reasons.specs.declared.fact_marks.Mark.{Mark}
+use Rattle.flow_reasons.specs.declared.fact_marks.Mark.TheVariants.{Unknown, Given, Added}
+use Rattle.flow_reasons.specs.FactMarks.{is_fact, HasNoFact, IsMarkedBy, MarksAll}
 use Rattle.flow_reasons.specs.Marks.{unknown_count, Known, IsStanding, IsAddedIn, MarkSays, AreRoundMarks, AreLastMarks, first_mark_of, first_marks_of}
 use Rattle.flow_reasons.specs.Bringing.{Brings, BringsAt, BringAll, NameOne}
 use Rattle.flow_reasons.proofs.Counting.{fewer}
-use Rattle.fact_marks.proofs.Marking.{open_not}
+use Rattle.flow_reasons.proofs.Marking.{open_not}
 use Rattle.flow_reasons.proofs.Standing.{fact_stands, value_allowed, at_number}
 
 -- a mark that is a fact or not

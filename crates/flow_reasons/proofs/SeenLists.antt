@@ -8,7 +8,7 @@ use Rattle.ar_base.proofs.Sets.{ascends_push}
 use Rattle.flow_reasons.specs.Answers.{numbers_of}
 use Rattle.flow_propagate.specs.Marks.{AreMarked}
 use Rattle.flow_reasons.specs.Cones.{unseen, SeesAll, SeesVariable, AreMembers}
-use Rattle.fact_marks.proofs.Placing.{set_here, set_other, set_back, pushed_cases, pushed_old, pushed_last, ascends_none}
+use Rattle.flow_reasons.proofs.Placing.{set_here, set_other, set_back, pushed_cases, pushed_old, pushed_last, ascends_none}
 
 -- nothing more was seen
 pub sees_none : (seen : List Bool) (found : List ℕ) → AreMarked seen found → SeesAll [] seen seen found found

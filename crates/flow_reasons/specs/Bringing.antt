@@ -10,8 +10,8 @@ use Rattle.ar_meaning.specs.Facts.{PassesConditions}
 use Rattle.gts_core.specs.View.{net_of, assign_of}
 use Rattle.gts_core.specs.declared.system.Assign.{Assign}
 use Rattle.gts_core.specs.declared.system.GtsParts.{GtsParts}
-use Rattle.fact_marks.specs.declared.Mark.{Mark}
-use Rattle.fact_marks.specs.Marks.{HasNoFact}
+use Rattle.flow_reasons.specs.declared.fact_marks.Mark.{Mark}
+use Rattle.flow_reasons.specs.FactMarks.{HasNoFact}
 use Rattle.flow_reasons.specs.Marks.{Known}
 
 -- the assignment is reached from what is known and yields the value of its target, which has no fact yet

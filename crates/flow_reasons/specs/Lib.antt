@@ -7,3 +7,4 @@ pub mod ReasonsInside
 pub mod Resting
 pub mod Rounds
 pub mod RoundsInside
+pub mod FactMarks

@@ -9,9 +9,9 @@ use Rattle.gts_core.specs.View.{net_of}
 use Rattle.gts_core.specs.Readings.{IsTotal, valuation_values}
 use Rattle.gts_core.specs.declared.system.Variable.{Variable}
 use Rattle.gts_core.specs.declared.system.GtsParts.{GtsParts}
-use Rattle.fact_marks.specs.Marks.{is_fact, is_fact_found}
-use Rattle.fact_marks.specs.declared.Mark.{Mark}
-use Rattle.fact_marks.specs.declared.Mark.TheVariants.{Unknown, Given, Added}
+use Rattle.flow_reasons.specs.FactMarks.{is_fact, is_fact_found}
+use Rattle.flow_reasons.specs.declared.fact_marks.Mark.{Mark}
+use Rattle.flow_reasons.specs.declared.fact_marks.Mark.TheVariants.{Unknown, Given, Added}
 
 -- the value of the variable of this number, where it has its fact
 abbrev pub fact_value_at : List Value → List Mark → ℕ → List Value

@@ -10,9 +10,9 @@ use Rattle.flow_reasons.specs.Reasons as rounds
 use Rattle.gts_core.specs.declared.system.GtsParts.{GtsParts}
 use Rattle.flow_propagate.specs.Plan.{AreReaders}
 use Rattle.flow_reasons.specs.Answers.{numbers_of}
-use Rattle.fact_marks.specs.Marks.{IsTo}
-use Rattle.fact_marks.specs.declared.Mark.{Mark}
-use Rattle.fact_marks.specs.declared.Mark.TheVariants.{Unknown, Given, Added}
+use Rattle.flow_reasons.specs.FactMarks.{IsTo}
+use Rattle.flow_reasons.specs.declared.fact_marks.Mark.{Mark}
+use Rattle.flow_reasons.specs.declared.fact_marks.Mark.TheVariants.{Unknown, Given, Added}
 
 -- the mark says that the fact stood before this round
 abbrev pub came_before : Mark → ℕ → Bool

@@ -6,10 +6,10 @@ ghost use Rattle.ar_base.specs.Sets.{Ascends};
 ghost use Rattle.gts_core.specs.Sound.{IsSound};
 ghost use Rattle.flow_reasons.specs.Bringing.{AreBringing};
 
+use crate::fact_marks::Mark;
 use crate::known::brings;
 use ar_base::Memory;
 use domains::Value;
-use fact_marks::Mark;
 use gts_core::GtsParts;
 use std::alloc::Global;
 

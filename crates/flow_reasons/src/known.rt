@@ -10,9 +10,9 @@ ghost use Rattle.gts_core.specs.Readings.{valuation_at};
 ghost use Rattle.flow_reasons.specs.Marks.{Known as IsKnown, fact_value_at};
 ghost use Rattle.flow_reasons.specs.Bringing.{Brings};
 
+use crate::fact_marks::{Mark, is_known};
 use ar_base::{Memory, VarId};
 use domains::Value;
-use fact_marks::{Mark, is_known};
 use gts_core::{Assign, value_at};
 use std::alloc::Global;
 use typed_expr::{Env, Expr, ValueKind, eval_set, kind_of};

@@ -4,6 +4,7 @@
 
 mod bringing;
 mod cones;
+mod fact_marks;
 mod known;
 pub mod laws;
 mod listing;

@@ -11,13 +11,13 @@ ghost use Rattle.flow_reasons.specs.Answers.{reason_of, reasons_of, IsReasonsAns
 ghost use Rattle.flow_reasons.specs.Marks.{IsStanding, AreLastMarks};
 ghost use Rattle.flow_reasons.specs.Resting.{HaveRests, reason_made};
 
+use crate::fact_marks::Mark;
 use crate::pairs::plain_pairs;
 use crate::reason::Reason;
 use crate::resting::rests;
 use crate::rounds::last_marks;
 use ar_base::{Memory, VarId};
 use domains::Value;
-use fact_marks::Mark;
 use flow_propagate::{PropagateFault, make_plan, propagate_by};
 use gts_core::{Gts, GtsParts, Valuation};
 use std::alloc::Global;

@@ -7,8 +7,8 @@ ghost use Rattle.gts_core.specs.Sound.{IsSound};
 ghost use Rattle.flow_propagate.specs.Plan.{AreReaders};
 ghost use Rattle.flow_reasons.specs.Resting.{IsMarkedRest, AreRests, AreEmpty, AddsRest};
 
+use crate::fact_marks::Mark;
 use ar_base::{Memory, VarId};
-use fact_marks::Mark;
 use gts_core::GtsParts;
 use std::alloc::Global;
 

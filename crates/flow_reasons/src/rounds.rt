@@ -7,11 +7,10 @@ ghost use Rattle.flow_reasons.specs.Marks.{first_marks_of, IsStanding, AreLastMa
 ghost use Rattle.flow_reasons.specs.Bringing.{BringsAt, BringAll, NameOne};
 
 use crate::bringing::{bringing, numbers_below};
-use ar_base::Memory;
+use crate::fact_marks::{Mark, mark_all};
+use ar_base::{Memory, paired};
 use domains::Value;
-use fact_marks::{Mark, mark_all};
 use gts_core::GtsParts;
-use number_pairs::paired;
 use std::alloc::Global;
 
 // The marks after all rounds.

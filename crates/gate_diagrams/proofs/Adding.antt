@@ -3,9 +3,9 @@ use Rattle.std.proofs.Common.{◌≡◌, ◌≢◌, inl, inr, ⊎_elim, ℕ, zer
 use Rattle.std.specs.List.{AllByRecursion}
 use Rattle.ar_base.specs.Lists.{IsOneOf}
 use Rattle.ar_base.proofs.Standing.{one_none, one_cases, one_first, one_rest}
-use Rattle.zdd_families.specs.Families.{Family}
-use Rattle.zdd_families.specs.FamiliesInside.{node, IsAbove}
-use Rattle.zdd_families.specs.SectionsInside.{IsMade}
+use Rattle.zdd_nodes.specs.Families.{Family}
+use Rattle.zdd_nodes.specs.FamiliesInside.{node, IsAbove}
+use Rattle.zdd_nodes.specs.SectionsInside.{IsMade}
 use Rattle.zdd_nodes.specs.Nodes.{NodeId, Stored, family, IsFamilyNumber, IsNode, Grows, Draws}
 use Rattle.zdd_nodes.specs.declared.NodeFault.{NodeFault}
 use Rattle.zdd_nodes.proofs.Growing.{Grows-weaker, kept, still}

@@ -4,13 +4,13 @@ use Rattle.std.specs.List.{All, list_any}
 use Rattle.std.proofs.lemmas.List.Elements.{All-append, All-weaker}
 use Rattle.ar_firing.specs.Forest.{ModeTree}
 use Rattle.ar_firing.specs.Listed.{AreListed}
-use Rattle.zdd_families.specs.Families.{Family, within, has, minimal}
-use Rattle.zdd_families.specs.FamiliesInside.{IsFamily}
-use Rattle.zdd_families.specs.Sections.{IsCounted, IsHalf, IsMoreThan}
-use Rattle.zdd_families.proofs.Filters.{IsFamily-filter}
-use Rattle.zdd_families.proofs.Laws.{same-refl, within-refl}
-use Rattle.zdd_families.proofs.Minimal.{any_within-minimal}
-use Rattle.zdd_families.proofs.Sections.{IsMoreThan-weaker}
+use Rattle.zdd_nodes.specs.Families.{Family, within, has, minimal}
+use Rattle.zdd_nodes.specs.FamiliesInside.{IsFamily}
+use Rattle.zdd_nodes.specs.Sections.{IsCounted, IsHalf, IsMoreThan}
+use Rattle.zdd_nodes.proofs.Filters.{IsFamily-filter}
+use Rattle.zdd_nodes.proofs.Laws.{same-refl, within-refl}
+use Rattle.zdd_nodes.proofs.Minimal.{any_within-minimal}
+use Rattle.zdd_nodes.proofs.Sections.{IsMoreThan-weaker}
 use Rattle.zdd_nodes.specs.Nodes.{NodeId, Stored, family, IsFamilyNumber, IsSoundStore, Grows, Draws}
 use Rattle.zdd_nodes.specs.declared.NodeFault.{NodeFault}
 use Rattle.zdd_nodes.specs.declared.NodeFault.TheVariants.{Full}

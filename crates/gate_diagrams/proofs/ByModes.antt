@@ -5,11 +5,11 @@ use Rattle.std.proofs.lemmas.List.Elements.{All-nil, All-get_or}
 use Rattle.ar_base.proofs.Standing.{stands_one, stands_within, stands_get}
 use Rattle.ar_firing.specs.Forest.{ModeTree}
 use Rattle.ar_firing.specs.Listed.{AreListed}
-use Rattle.zdd_families.specs.Families.{Family, minimal}
-use Rattle.zdd_families.specs.FamiliesInside.{IsFamily}
-use Rattle.zdd_families.specs.Sections.{IsCounted, of_minimal}
-use Rattle.zdd_families.proofs.Ascending.{ascends_nil}
-use Rattle.zdd_families.proofs.Sections.{section-whole}
+use Rattle.zdd_nodes.specs.Families.{Family, minimal}
+use Rattle.zdd_nodes.specs.FamiliesInside.{IsFamily}
+use Rattle.zdd_nodes.specs.Sections.{IsCounted, of_minimal}
+use Rattle.zdd_nodes.proofs.Ascending.{ascends_nil}
+use Rattle.zdd_nodes.proofs.Sections.{section-whole}
 use Rattle.zdd_nodes.specs.Nodes.{NodeId, Stored, family, Draws, IsFamilyNumber, IsSoundStore}
 use Rattle.zdd_nodes.specs.declared.NodeFault.{NodeFault}
 use Rattle.zdd_nodes.specs.declared.NodeFault.TheVariants.{Full, Memory as OutOfMemory}
@@ -28,11 +28,11 @@ use Rattle.diagram_steps.specs.declared.trees.NumberedTree.{NumberedTree}
 use Rattle.diagram_steps.specs.Trees.{edges_of}
 use Rattle.mode_diagrams.specs.Agreement.{HasOperandValues, AreClosedMarks}
 use Rattle.mode_diagrams.specs.Costs.{IsEnoughFor}
-use Rattle.mode_diagrams.specs.declared.drawing.Undrawn.{Undrawn}
+use Rattle.mode_diagrams.specs.declared.undrawn.Undrawn.{Undrawn}
 use Rattle.mode_diagrams.specs.Numbers.{HasFewEdges, IsByModes}
 use Rattle.mode_diagrams.specs.Sets.{AreSmall, HasSets, IsTrueFrom}
 use Rattle.mode_diagrams.specs.declared.listing.Listed.{Listed}
-use Rattle.gate_cones.specs.Cones.{own, named}
+use Rattle.eq_core.specs.Cones.{own, named}
 use Rattle.gate_diagrams.specs.Needed.{family_at, IsNeeded, IsNeededByBoth}
 use Rattle.gate_diagrams.specs.NodeLimits.{NodesMayUpTo}
 use Rattle.gate_diagrams.specs.Needed.IsNeeded.{of_half}
@@ -41,7 +41,7 @@ use Rattle.gate_diagrams.specs.declared.answer.Drawn.TheVariants.{Conflicts, Cut
 use Rattle.gate_diagrams.specs.declared.answer.Family.{Family as Answered}
 use Rattle.gate_diagrams.specs.declared.by_modes.Unanswered.{Unanswered}
 use Rattle.gate_diagrams.specs.declared.by_modes.Unanswered.TheVariants.{Beyond, Nodes}
-use Rattle.gate_cones.specs.Marks.{AreConeMarks}
+use Rattle.eq_core.specs.Marks.{AreConeMarks}
 use Rattle.gate_diagrams.specs.ByModes.{IsListedFamily, HasValueOf, DrawsByModes, AnswersByModes, unanswered_of}
 use Rattle.gate_diagrams.proofs.Answering.{needed_conflict, full_conflict, sets_conflict, needed_both, full_both, sets_top}
 use Rattle.gate_diagrams.proofs.Filters.{of_members, family_same}

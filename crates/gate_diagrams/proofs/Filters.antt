@@ -1,10 +1,10 @@
 -- Families of operands and gates are filters of the firable sets, made by meets, unions and differences.
 use Rattle.std.proofs.Common.{◌≡◌, ℕ, Bool, true, false, not, ◌&&◌, ◌||◌, eqb, List, [], ◌∷◌, ◌++◌, refl, sym, ap, ap₂, ◌∙◌, eqb-true, eq-eqb}
 use Rattle.ar_base.specs.Lists.{Stands}
-use Rattle.zdd_families.specs.Families.{Family, holds}
-use Rattle.zdd_families.specs.FamiliesInside.{IsInOrder, union, meet, minus, having}
-use Rattle.zdd_families.proofs.Laws.{filter_alike, filter-all, filter-none, every, meet-filters}
-use Rattle.zdd_families.proofs.Gates.{union-filters}
+use Rattle.zdd_nodes.specs.Families.{Family, holds}
+use Rattle.zdd_nodes.specs.FamiliesInside.{IsInOrder, union, meet, minus, having}
+use Rattle.zdd_nodes.proofs.Laws.{filter_alike, filter-all, filter-none, every, meet-filters}
+use Rattle.zdd_nodes.proofs.Gates.{union-filters}
 use Rattle.eq_core.specs.Gates.{Operand, Always, Never, EventIs, GateIs, Gate, opposite}
 use Rattle.eq_core.specs.Values.{has_event, signed, operand_at, joint_at, values_from, values_at, value_at}
 use Rattle.eq_core.proofs.Telling.{turned, gate_value}
@@ -12,8 +12,8 @@ use Rattle.eq_core.specs.Ordered.{AreBelow}
 use Rattle.firable_families.specs.FirableInside.{IsOfMembers}
 use Rattle.ar_base.specs.Sets.{Within}
 use Rattle.ar_base.proofs.Truths.{alike}
-use Rattle.zdd_families.proofs.Members.{holds_law}
-use Rattle.zdd_families.proofs.Filters.{minus-filter}
+use Rattle.zdd_nodes.proofs.Members.{holds_law}
+use Rattle.zdd_nodes.proofs.Filters.{minus-filter}
 use Rattle.gate_diagrams.specs.Needed.{family_at, joint_family}
 
 -- ---- operands

@@ -6,10 +6,10 @@ use Rattle.ar_firing.specs.Forest.{ModeTree}
 use Rattle.ar_firing.specs.Listed.{AreListed}
 use Rattle.ar_firing.specs.Trees.{HaveOwnEvents}
 use Rattle.ar_firing.proofs.OneListing.{ascending_same}
-use Rattle.zdd_families.specs.Families.{Family, has}
-use Rattle.zdd_families.specs.Sections.{IsCounted}
-use Rattle.zdd_families.proofs.Minimal.{member_of}
-use Rattle.zdd_families.proofs.OneList.{same_sets}
+use Rattle.zdd_nodes.specs.Families.{Family, has}
+use Rattle.zdd_nodes.specs.Sections.{IsCounted}
+use Rattle.zdd_nodes.proofs.Minimal.{member_of}
+use Rattle.zdd_nodes.proofs.OneList.{same_sets}
 use Rattle.zdd_nodes.specs.Nodes.{NodeId, Stored, Draws}
 use Rattle.zdd_nodes.specs.declared.NodeFault.{NodeFault}
 use Rattle.firable_families.specs.FirableInside.{IsFirableUpTo}

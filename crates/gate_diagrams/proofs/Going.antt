@@ -3,11 +3,11 @@ use Rattle.std.proofs.Common.{◌≡◌, ◌≢◌, ⊎_elim, ℕ, zero, suc, �
 use Rattle.std.specs.List.{list_any, list_all}
 use Rattle.ar_base.specs.Lists.{Stands}
 use Rattle.ar_base.proofs.Standing.{stands_map, stands_map_back}
-use Rattle.zdd_families.specs.Families.{Family, has, holds}
-use Rattle.zdd_families.specs.FamiliesInside.{node, IsAbove}
-use Rattle.zdd_families.specs.Sections.{IsCounted}
-use Rattle.zdd_families.specs.SectionsInside.{IsMade}
-use Rattle.zdd_families.proofs.Laws.{holds_here}
+use Rattle.zdd_nodes.specs.Families.{Family, has, holds}
+use Rattle.zdd_nodes.specs.FamiliesInside.{node, IsAbove}
+use Rattle.zdd_nodes.specs.Sections.{IsCounted}
+use Rattle.zdd_nodes.specs.SectionsInside.{IsMade}
+use Rattle.zdd_nodes.proofs.Laws.{holds_here}
 use Rattle.zdd_nodes.specs.Nodes.{NodeId, Stored, family, IsFamilyNumber, IsSoundStore, Grows, Draws}
 use Rattle.zdd_nodes.specs.declared.NodeFault.{NodeFault}
 use Rattle.zdd_nodes.specs.declared.NodeFault.TheVariants.{Memory}

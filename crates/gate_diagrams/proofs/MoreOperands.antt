@@ -1,9 +1,9 @@
 -- One more operand of a gate.
 use Rattle.std.proofs.Common.{◌≡◌, ℕ, ◌+◌, Bool, true, false, cond, List, take, Result, Ok, Err, refl, ap₂, ◌∙◌, subst}
 use Rattle.ar_base.specs.Lists.{Stands}
-use Rattle.zdd_families.specs.Families.{Family}
-use Rattle.zdd_families.specs.FamiliesInside.{meet, union}
-use Rattle.zdd_families.specs.Sections.{IsCounted}
+use Rattle.zdd_nodes.specs.Families.{Family}
+use Rattle.zdd_nodes.specs.FamiliesInside.{meet, union}
+use Rattle.zdd_nodes.specs.Sections.{IsCounted}
 use Rattle.zdd_nodes.specs.Nodes.{NodeId, Stored, family, IsFamilyNumber, Draws}
 use Rattle.zdd_nodes.specs.declared.NodeFault.{NodeFault}
 use Rattle.zdd_nodes.proofs.Growing.{Draws-refused, Draws-after, kept}

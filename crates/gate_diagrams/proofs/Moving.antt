@@ -2,9 +2,9 @@
 use Rattle.std.proofs.Common.{◌≡◌, ℕ, zero, suc, Bool, true, false, not, cond, ◌&&◌, ◌||◌, eqb, eqb-true, List, [], ◌∷◌, Option, Result, refl, sym, ap, ap₂, ◌∙◌, subst}
 use Rattle.std.specs.List.{list_all}
 use Rattle.ar_base.specs.Lists.{Stands}
-use Rattle.zdd_families.specs.Families.{Family, has}
-use Rattle.zdd_families.specs.FamiliesInside.{node}
-use Rattle.zdd_families.specs.Sections.{IsCounted, lower}
+use Rattle.zdd_nodes.specs.Families.{Family, has}
+use Rattle.zdd_nodes.specs.FamiliesInside.{node}
+use Rattle.zdd_nodes.specs.Sections.{IsCounted, lower}
 use Rattle.zdd_nodes.specs.Nodes.{NodeId, Stored, family, Draws}
 use Rattle.zdd_nodes.specs.declared.NodeFault.{NodeFault}
 use Rattle.firable_families.specs.Walk.{occurs, taken, some_occurs, all_lower, all_taken, left, few_of, AreEventsBelow}

@@ -3,16 +3,16 @@ use Rattle.std.proofs.Common.{◌≡◌, ℕ, ◌+◌, Bool, true, false, List, 
 use Rattle.std.proofs.lemmas.List.{take_more, take_all}
 use Rattle.std.proofs.lemmas.Option.{slice_get_within, get_or_from_slice_get}
 use Rattle.ar_base.specs.Lists.{Stands}
-use Rattle.zdd_families.specs.Families.{Family, minimal}
-use Rattle.zdd_families.specs.FamiliesInside.{IsInOrder, union, meet, minus, having}
-use Rattle.zdd_families.specs.Sections.{IsCounted, IsHalf}
+use Rattle.zdd_nodes.specs.Families.{Family, minimal}
+use Rattle.zdd_nodes.specs.FamiliesInside.{IsInOrder, union, meet, minus, having}
+use Rattle.zdd_nodes.specs.Sections.{IsCounted, IsHalf}
 use Rattle.zdd_nodes.specs.Nodes.{NodeId, Stored, family, Draws}
 use Rattle.zdd_nodes.specs.declared.NodeFault.{NodeFault}
 use Rattle.zdd_nodes.proofs.Growing.{Draws-weaker}
 use Rattle.eq_core.specs.Gates.{Operand, EventIs, GateIs, Gate, opposite}
 use Rattle.eq_core.specs.Ordered.{AreOrdered}
 use Rattle.eq_core.proofs.Telling.{place_below}
-use Rattle.gate_cones.specs.Cones.{InGateCone}
+use Rattle.eq_core.specs.Cones.{InGateCone}
 use Rattle.gate_diagrams.specs.Needed.{family_at, joint_family, IsOperandInCone, IsNeeded}
 use Rattle.gate_diagrams.specs.Needed.IsNeeded.{of_firable, of_signed, of_plain, of_first, of_half}
 use Rattle.gate_diagrams.proofs.Filters.{family_of_event, family_of_opposite, joint_first, joint_meet, joint_union, family_of_gate}

@@ -1,8 +1,8 @@
 -- What the family of an operand adds to the store is needed.
 use Rattle.std.proofs.Common.{◌≡◌, ℕ, Bool, true, false, List, Result, Ok, Err, sym, ap, ap₂, ◌∙◌, subst, arith}
-use Rattle.zdd_families.specs.Families.{Family}
-use Rattle.zdd_families.specs.FamiliesInside.{minus, having}
-use Rattle.zdd_families.specs.Sections.{IsCounted}
+use Rattle.zdd_nodes.specs.Families.{Family}
+use Rattle.zdd_nodes.specs.FamiliesInside.{minus, having}
+use Rattle.zdd_nodes.specs.Sections.{IsCounted}
 use Rattle.zdd_nodes.specs.Nodes.{NodeId, Stored, family, IsFamilyNumber, Draws}
 use Rattle.zdd_nodes.specs.declared.NodeFault.{NodeFault}
 use Rattle.zdd_nodes.proofs.Growing.{Draws-stays, Draws-refused, Draws-after, kept}

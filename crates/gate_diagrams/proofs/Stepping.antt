@@ -4,10 +4,10 @@ use Rattle.std.proofs.lemmas.List.{map-append}
 use Rattle.std.proofs.lemmas.List.Folds.{list_any-append}
 use Rattle.ar_base.specs.Lists.{Stands}
 use Rattle.ar_base.proofs.Standing.{stands_none, stands_split}
-use Rattle.zdd_families.specs.Families.{Family}
-use Rattle.zdd_families.specs.FamiliesInside.{IsAbove}
-use Rattle.zdd_families.specs.Sections.{lower}
-use Rattle.zdd_families.proofs.Laws.{IsAbove-node}
+use Rattle.zdd_nodes.specs.Families.{Family}
+use Rattle.zdd_nodes.specs.FamiliesInside.{IsAbove}
+use Rattle.zdd_nodes.specs.Sections.{lower}
+use Rattle.zdd_nodes.proofs.Laws.{IsAbove-node}
 use Rattle.zdd_nodes.specs.Nodes.{NodeId, Stored, family, IsFamilyNumber, IsNode}
 use Rattle.firable_families.specs.Walk.{occurs, some_occurs, taken}
 use Rattle.firable_families.proofs.Halving.{none_above, lower_above, taken_above, lower_node, occurs_node, taken_node}

@@ -2,8 +2,8 @@
 use Rattle.std.proofs.Common.{◌≡◌, ⊎_elim, ℕ, ◌+◌, ◌<◌, Bool, true, cond, List, [], ◌∷◌, ◌++◌, length, Result, Ok, Err, refl, sym, ap, ◌∙◌, subst, arith, length-append}
 use Rattle.ar_base.specs.Lists.{Stands, IsOneOf}
 use Rattle.ar_base.proofs.Standing.{stands_none}
-use Rattle.zdd_families.specs.Families.{Family}
-use Rattle.zdd_families.specs.FamiliesInside.{IsInOrder}
+use Rattle.zdd_nodes.specs.Families.{Family}
+use Rattle.zdd_nodes.specs.FamiliesInside.{IsInOrder}
 use Rattle.zdd_nodes.specs.Nodes.{NodeId, Stored, family, IsFamilyNumber, Grows, Draws}
 use Rattle.zdd_nodes.specs.declared.NodeFault.{NodeFault}
 use Rattle.zdd_nodes.specs.declared.NodeFault.TheVariants.{Memory}
@@ -13,7 +13,7 @@ use Rattle.eq_core.specs.Gates.{Operand, GateIs, Gate}
 use Rattle.eq_core.specs.Ordered.{AreOrdered}
 use Rattle.eq_core.specs.ValuesInside.{IsBelow}
 use Rattle.eq_core.proofs.Telling.{place_below}
-use Rattle.gate_cones.specs.Cones.{InGateCone, own, named}
+use Rattle.eq_core.specs.Cones.{InGateCone, own, named}
 use Rattle.gate_diagrams.specs.Needed.{family_at, IsNeeded}
 use Rattle.gate_diagrams.specs.Drawing.{IsDrawn, IsGateTabled, IsGateReady}
 

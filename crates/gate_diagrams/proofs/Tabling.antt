@@ -16,11 +16,11 @@ use Rattle.ar_firing.specs.Trees.{IsTree}
 use Rattle.mode_trees.specs.declared.forests.Edge.{Edge}
 use Rattle.mode_trees.specs.declared.forests.ModeTree.{ModeTree as Tree}
 use Rattle.mode_trees.specs.Views.{edge_row, tree_of}
-use Rattle.zdd_families.specs.Families.{Family, same, has}
-use Rattle.zdd_families.specs.FamiliesInside.{union}
-use Rattle.zdd_families.specs.Sections.{IsCounted}
-use Rattle.zdd_families.proofs.Laws.{same-refl, same-true}
-use Rattle.zdd_families.proofs.Members.{has-union}
+use Rattle.zdd_nodes.specs.Families.{Family, same, has}
+use Rattle.zdd_nodes.specs.FamiliesInside.{union}
+use Rattle.zdd_nodes.specs.Sections.{IsCounted}
+use Rattle.zdd_nodes.proofs.Laws.{same-refl, same-true}
+use Rattle.zdd_nodes.proofs.Members.{has-union}
 use Rattle.zdd_nodes.specs.Nodes.{NodeId, Stored, family, IsSoundStore, Draws}
 use Rattle.zdd_nodes.specs.declared.NodeFault.{NodeFault}
 use Rattle.zdd_nodes.proofs.Growing.{Grows-then, kept}

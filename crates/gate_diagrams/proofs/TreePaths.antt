@@ -7,7 +7,7 @@ use Rattle.ar_base.proofs.Standing.{stands_none, stands_split}
 use Rattle.ar_base.proofs.Items.{along_push}
 use Rattle.ar_firing.specs.Forest.{ModeTree}
 use Rattle.ar_firing.specs.Listed.{AreListed}
-use Rattle.zdd_families.specs.Families.{Family}
+use Rattle.zdd_nodes.specs.Families.{Family}
 use Rattle.zdd_nodes.specs.Nodes.{NodeId, Stored, family, IsFamilyNumber}
 use Rattle.zdd_nodes.proofs.Growing.{kept, still}
 use Rattle.firable_families.specs.FirableInside.{IsPathSet}

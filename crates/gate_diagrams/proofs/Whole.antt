@@ -8,9 +8,9 @@ use Rattle.ar_firing.specs.Trees.{HaveOwnEvents}
 use Rattle.mode_trees.specs.declared.forests.ModeTree.{ModeTree as Tree}
 use Rattle.mode_trees.specs.declared.forests.Forest.{Forest}
 use Rattle.mode_trees.specs.Views.{tree_of, trees_of}
-use Rattle.zdd_families.specs.Families.{Family}
-use Rattle.zdd_families.specs.Sections.{IsCounted, IsMoreThan}
-use Rattle.zdd_families.proofs.Sections.{IsMoreThan-weaker}
+use Rattle.zdd_nodes.specs.Families.{Family}
+use Rattle.zdd_nodes.specs.Sections.{IsCounted, IsMoreThan}
+use Rattle.zdd_nodes.proofs.Sections.{IsMoreThan-weaker}
 use Rattle.zdd_nodes.specs.Nodes.{NodeId, Stored, family, IsFamilyNumber, Draws}
 use Rattle.zdd_nodes.specs.declared.NodeFault.{NodeFault}
 use Rattle.zdd_nodes.specs.declared.NodeFault.TheVariants.{Full}

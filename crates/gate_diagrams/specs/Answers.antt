@@ -2,7 +2,7 @@
 use Rattle.std.specs.Prelude.{ℕ, List, Option, None}
 use Rattle.std.specs.List.{All}
 use Rattle.ar_firing.specs.Forest.{ModeTree}
-use Rattle.zdd_families.specs.Families.{Family}
+use Rattle.zdd_nodes.specs.Families.{Family}
 use Rattle.zdd_nodes.specs.Nodes.{Stored, family, IsFamilyNumber}
 use Rattle.eq_core.specs.Gates.{Table}
 use Rattle.eq_core.specs.Values.{value_at}

@@ -2,14 +2,14 @@
 use Rattle.std.specs.Prelude.{◌≡◌, ◌≤◌, ℕ, List, length, Option, Result, Ok, Err, IfOk}
 use Rattle.ar_firing.specs.Forest.{ModeTree}
 use Rattle.ar_firing.specs.Listed.{AreListed}
-use Rattle.zdd_families.specs.Families.{Family, minimal}
+use Rattle.zdd_nodes.specs.Families.{Family, minimal}
 use Rattle.zdd_nodes.specs.Nodes.{NodeId, Stored, family, IsFamilyNumber, IsSoundStore, Draws}
 use Rattle.zdd_nodes.specs.declared.NodeFault.TheVariants as NodeFault
 use Rattle.eq_core.specs.Gates.{Operand, Gate, Table}
 use Rattle.eq_core.specs.Values.{value_at}
 use Rattle.firable_families.specs.FirableInside.{IsTrueUpTo}
 use Rattle.diagram_steps.specs.declared.trees.NumberedTree.{NumberedTree}
-use Rattle.mode_diagrams.specs.declared.drawing.Undrawn.{Undrawn}
+use Rattle.mode_diagrams.specs.declared.undrawn.Undrawn.{Undrawn}
 use Rattle.mode_diagrams.specs.Numbers.{IsByModes}
 use Rattle.mode_diagrams.specs.declared.listing.Listed.{Listed}
 use Rattle.gate_diagrams.specs.Needed.{family_at, IsNeeded}

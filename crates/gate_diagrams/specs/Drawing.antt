@@ -1,12 +1,12 @@
 -- What the drawing of gates keeps.
 use Rattle.std.specs.Prelude.{◌≡◌, ◌<◌, ℕ, Bool, true, List, length}
 use Rattle.ar_base.specs.Lists.{Stands, IsOneOf}
-use Rattle.zdd_families.specs.Families.{Family}
-use Rattle.zdd_families.specs.FamiliesInside.{IsInOrder}
+use Rattle.zdd_nodes.specs.Families.{Family}
+use Rattle.zdd_nodes.specs.FamiliesInside.{IsInOrder}
 use Rattle.zdd_nodes.specs.Nodes.{NodeId, Stored, family, IsFamilyNumber}
 use Rattle.eq_core.specs.Gates.{Operand, GateIs, Gate}
 use Rattle.eq_core.specs.Ordered.{AreOrdered}
-use Rattle.gate_cones.specs.Cones.{InGateCone}
+use Rattle.eq_core.specs.Cones.{InGateCone}
 use Rattle.gate_diagrams.specs.Needed.{family_at}
 
 -- n is the number of the operand's family

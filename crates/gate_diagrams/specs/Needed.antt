@@ -3,11 +3,11 @@
 use Rattle.std.specs.Prelude.{◌≡◌, ◌<◌, ◌≤◌, ◌⊎◌, ℕ, Bool, true, List, length, take}
 use Rattle.std.specs.List.{filter}
 use Rattle.ar_base.specs.Lists.{Stands, IsOneOf}
-use Rattle.zdd_families.specs.Families.{Family}
-use Rattle.zdd_families.specs.Sections.{IsCounted, IsHalf}
+use Rattle.zdd_nodes.specs.Families.{Family}
+use Rattle.zdd_nodes.specs.Sections.{IsCounted, IsHalf}
 use Rattle.eq_core.specs.Gates.{Operand, Always, Never, EventIs, GateIs, Gate, Table}
 use Rattle.eq_core.specs.Values.{values_at, joint_at, value_at}
-use Rattle.gate_cones.specs.Cones.{InGateCone}
+use Rattle.eq_core.specs.Cones.{InGateCone}
 
 -- the sets at which the operand is true
 unfoldable pub family_at : Family → List Gate → Operand → Family

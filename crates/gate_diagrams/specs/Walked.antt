@@ -6,8 +6,8 @@ use Rattle.std.specs.Map.{lookup}
 use Rattle.std.specs.Cmp.Lexicographic.{pointwise}
 use Rattle.ar_base.specs.Lists.{Stands}
 use Rattle.ar_base.specs.NumbersInside.{EventId}
-use Rattle.zdd_families.specs.Families.{Family}
-use Rattle.zdd_families.specs.Sections.{lower}
+use Rattle.zdd_nodes.specs.Families.{Family}
+use Rattle.zdd_nodes.specs.Sections.{lower}
 use Rattle.zdd_nodes.specs.Nodes.{NodeId, Stored, family, IsFamilyNumber}
 use Rattle.firable_families.specs.Walk.{occurs, some_occurs, taken, left, few_of, AreEventsBelow}
 use Rattle.gate_diagrams.specs.declared.walked.State.{State}

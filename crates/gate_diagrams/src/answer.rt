@@ -4,8 +4,8 @@ ghost use Rattle.std.specs.Prelude.{◌≡◌, ◌≤◌, ℕ, List, Option, IfO
 ghost use Rattle.std.specs.List.{All};
 ghost use Rattle.ar_firing.specs.Forest.{ModeTree};
 ghost use Rattle.ar_firing.specs.Listed.{AreListed};
-ghost use Rattle.zdd_families.specs.Families.{minimal};
-ghost use Rattle.zdd_families.specs.Sections.{IsCounted};
+ghost use Rattle.zdd_nodes.specs.Families.{minimal};
+ghost use Rattle.zdd_nodes.specs.Sections.{IsCounted};
 ghost use Rattle.zdd_nodes.specs.Nodes.{family, IsFamilyNumber, IsSoundStore, Draws};
 ghost use Rattle.eq_core.specs.Ordered.{AreOrdered, IsOrderedTable};
 ghost use Rattle.eq_core.specs.ValuesInside.{IsBelow};

@@ -6,7 +6,7 @@ ghost use Rattle.ar_firing.specs.Forest.{ModeTree};
 ghost use Rattle.ar_firing.specs.Listed.{AreListed};
 ghost use Rattle.ar_firing.specs.Trees.{AreTrees};
 ghost use Rattle.mode_trees.specs.Views.{trees_of};
-ghost use Rattle.zdd_families.specs.Families.{Family as Sets};
+ghost use Rattle.zdd_nodes.specs.Families.{Family as Sets};
 ghost use Rattle.eq_core.specs.Gates.{Gate as GateOf, Operand as OperandOf};
 ghost use Rattle.eq_core.specs.Ordered.{AreOrdered, IsOrderedTable};
 ghost use Rattle.eq_core.specs.ValuesInside.{IsBelow};

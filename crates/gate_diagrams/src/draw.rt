@@ -1,7 +1,7 @@
 //! The family of an operand, with those of the gates that it rests on.
 
 ghost use Rattle.std.specs.Prelude.{◌≡◌, map, length, cond, true, []};
-ghost use Rattle.zdd_families.specs.FamiliesInside.{IsInOrder};
+ghost use Rattle.zdd_nodes.specs.FamiliesInside.{IsInOrder};
 ghost use Rattle.zdd_nodes.specs.Nodes.{family, IsFamilyNumber, Draws};
 ghost use Rattle.eq_core.specs.Gates.{GateIs};
 ghost use Rattle.eq_core.specs.Ordered.{AreOrdered};
@@ -11,8 +11,7 @@ ghost use Rattle.gate_diagrams.specs.Needed.{family_at, IsNeeded};
 ghost use Rattle.gate_diagrams.specs.Drawing.{IsGateReady};
 
 use crate::gates::{gate, operand};
-use eq_core::{Gate, Operand};
-use gate_cones::cone;
+use eq_core::{Gate, Operand, cone};
 use std::alloc::Global;
 use zdd_nodes::{NodeFault, NodeId};
 use zdd_ops::Ops;

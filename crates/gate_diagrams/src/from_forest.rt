@@ -4,7 +4,7 @@ ghost use Rattle.std.specs.Prelude.{◌≡◌, ◌≤◌, IfOk, length};
 ghost use Rattle.ar_firing.specs.Listed.{AreListed};
 ghost use Rattle.ar_firing.specs.Trees.{AreTrees};
 ghost use Rattle.mode_trees.specs.Views.{trees_of};
-ghost use Rattle.zdd_families.specs.Families.{Family as Sets};
+ghost use Rattle.zdd_nodes.specs.Families.{Family as Sets};
 ghost use Rattle.eq_core.specs.Ordered.{IsOrderedTable};
 ghost use Rattle.eq_core.specs.Views.{table_of};
 ghost use Rattle.firable_families.specs.FirableInside.{IsFirableOf, IsFirableUpTo};

@@ -13,8 +13,7 @@ ghost use Rattle.gate_diagrams.specs.ByModes.{IsListedFamily};
 
 use coherent_cuts::{is_coherent, least_cuts};
 use diagram_steps::NumberedTree;
-use eq_core::{Gate, Operand};
-use gate_cones::cone;
+use eq_core::{Gate, Operand, cone};
 use mode_diagrams::{Listed, Undrawn, copied, diagrams_up_to, draw, list_sets};
 use std::alloc::Global;
 use zdd_ops::Ops;

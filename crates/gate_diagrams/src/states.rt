@@ -2,7 +2,7 @@
 
 ghost use Rattle.std.specs.Prelude.{◌≡◌, ◌<◌, ◌++◌, ℕ, List, false, nat_eq, IfOk, [], ◌∷◌};
 ghost use Rattle.std.specs.List.{list_any};
-ghost use Rattle.zdd_families.specs.Families.{Family as Sets};
+ghost use Rattle.zdd_nodes.specs.Families.{Family as Sets};
 ghost use Rattle.zdd_nodes.specs.Nodes.{family, IsFamilyNumber};
 ghost use Rattle.firable_families.specs.Walk.{occurs, some_occurs};
 ghost use Rattle.gate_diagrams.specs.Walked.{families_left, AreNumbers, IsHalfNumber, AreHalves, IsLeastEvent};

@@ -1,7 +1,7 @@
 //! The walk through the firable sets, event by event.
 
 ghost use Rattle.std.specs.Prelude.{◌≡◌, ℕ, Some, true, false, OnOk};
-ghost use Rattle.zdd_families.specs.Sections.{IsCounted};
+ghost use Rattle.zdd_nodes.specs.Sections.{IsCounted};
 ghost use Rattle.zdd_nodes.specs.Nodes.{Draws, IsSoundStore};
 ghost use Rattle.firable_families.specs.Walk.{left as left_of, few_of, one_fewer as fewer, AreEventsBelow};
 ghost use Rattle.gate_diagrams.specs.Walked.{families_left, AreNumbers, AreWalked};

@@ -9,11 +9,11 @@ use Rattle.ar_base.specs.Lists.Along.{none, one_and}
 use Rattle.ar_base.specs.Sets.{Ascends, Within}
 use Rattle.ar_base.proofs.Standing.{one_none, one_first, one_rest, one_cases}
 use Rattle.ar_firing.proofs.OneListing.{ascending_same}
-use Rattle.zdd_families.specs.Families.{Family, has, holds, same}
-use Rattle.zdd_families.proofs.Ascending.{IsAscending, is_ascending, ascends_from}
-use Rattle.zdd_families.proofs.Laws.{same-true, same-refl}
-use Rattle.zdd_families.proofs.Members.{holds_law}
-use Rattle.zdd_families.proofs.Minimal.{member_of}
+use Rattle.zdd_nodes.specs.Families.{Family, has, holds, same}
+use Rattle.zdd_nodes.proofs.Ascending.{IsAscending, is_ascending, ascends_from}
+use Rattle.zdd_nodes.proofs.Laws.{same-true, same-refl}
+use Rattle.zdd_nodes.proofs.Members.{holds_law}
+use Rattle.zdd_nodes.proofs.Minimal.{member_of}
 use Rattle.gate_modules.specs.Modules.{lies, inside, outside, joined_sets, IsPartOfUnit, IsModule}
 use Rattle.gate_modules.specs.ModulesInside.{ShareNoEvent}
 use Rattle.gate_modules.specs.Shortened.{ShortForm, touches, is_covered, same_form, once}

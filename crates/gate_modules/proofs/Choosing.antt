@@ -5,9 +5,9 @@ use Rattle.std.proofs.lemmas.List.{take_more}
 use Rattle.ar_base.specs.Lists.{Stands, IsOneOf, Along}
 use Rattle.ar_base.specs.Lists.Along.{none, one_and}
 use Rattle.ar_base.proofs.Standing.{one_left, one_right, one_split, one_none, only_item, stands_get, stands_one, stands_split, stands_within, one_here}
-use Rattle.zdd_families.specs.Families.{Family}
-use Rattle.zdd_families.specs.Sections.{section}
-use Rattle.zdd_families.proofs.Behind.{behind_none}
+use Rattle.zdd_nodes.specs.Families.{Family}
+use Rattle.zdd_nodes.specs.Sections.{section}
+use Rattle.zdd_nodes.proofs.Behind.{behind_none}
 use Rattle.zdd_nodes.specs.Nodes.{Stored, family, IsFamilyNumber, IsSoundStore}
 use Rattle.gate_modules.specs.Choosing.{IsWithinNone, Considers, AreChosenSoFar}
 use Rattle.gate_modules.specs.Choosing.Considers.{within, no_module, is_new}

@@ -1,9 +1,9 @@
 -- The unit is a module exactly where each section at its range that has an event of it agrees with one of them.
 use Rattle.std.proofs.Common.{◌≡◌, ◌≢◌, ◌⊎◌, inl, inr, ℕ, true, List, [], ◌∷◌, refl, sym, ap, ◌∙◌, subst}
 use Rattle.ar_base.specs.Lists.{IsOneOf}
-use Rattle.zdd_families.specs.Families.{Family, has}
-use Rattle.zdd_families.specs.Sections.{section}
-use Rattle.zdd_families.proofs.Sections.{section-nil}
+use Rattle.zdd_nodes.specs.Families.{Family, has}
+use Rattle.zdd_nodes.specs.Sections.{section}
+use Rattle.zdd_nodes.proofs.Sections.{section-nil}
 use Rattle.zdd_nodes.specs.Nodes.{Stored, family, IsFamilyNumber, IsSoundStore}
 use Rattle.gate_modules.specs.Ends.{Alike, AgreeSome}
 use Rattle.gate_modules.specs.Modules.{joined_sets, IsPartOfUnit, IsRest, IsModule}

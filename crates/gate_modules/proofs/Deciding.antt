@@ -5,16 +5,16 @@ use Rattle.ar_base.specs.Lists.{IsOneOf}
 use Rattle.ar_base.proofs.Standing.{one_none, only_item}
 use Rattle.ar_base.specs.Sets.{Within}
 use Rattle.firable_families.proofs.Listing.{lists_listed, has_stands}
-use Rattle.zdd_families.specs.Families.{Family, has}
-use Rattle.zdd_families.specs.FamiliesInside.{order, node, IsFamily}
-use Rattle.zdd_families.specs.Sections.{section}
-use Rattle.zdd_families.proofs.Gates.{order-refl}
-use Rattle.zdd_families.proofs.Laws.{has_each}
-use Rattle.zdd_families.proofs.Sections.{section-nil}
+use Rattle.zdd_nodes.specs.Families.{Family, has}
+use Rattle.zdd_nodes.specs.FamiliesInside.{order, node, IsFamily}
+use Rattle.zdd_nodes.specs.Sections.{section}
+use Rattle.zdd_nodes.proofs.Gates.{order-refl}
+use Rattle.zdd_nodes.proofs.Laws.{has_each}
+use Rattle.zdd_nodes.proofs.Sections.{section-nil}
 use Rattle.zdd_nodes.specs.Nodes.{Stored, family, IsFamilyNumber, IsSoundStore}
 use Rattle.gate_modules.specs.Ends.{IsSectionAt}
 use Rattle.gate_modules.specs.Ends.IsSectionAt.{empty, taken}
-use Rattle.event_bounds.specs.Bounds.{AllEnd, AtLeast, EndsBelow, HasBelow}
+use Rattle.zdd_nodes.specs.Bounds.{AllEnd, AtLeast, EndsBelow, HasBelow}
 use Rattle.gate_modules.specs.Entries.{AreSectionsAt, IsEntryExit, EntryDiffers}
 use Rattle.gate_modules.specs.Modules.{IsPartOfUnit, IsModule}
 use Rattle.gate_modules.specs.Parts.{AreSomeHeads}

@@ -2,13 +2,13 @@
 use Rattle.std.proofs.Common.{◌≡◌, ◌≢◌, ◌⊎◌, inl, inr, ℕ, zero, suc, ◌<◌, Bool, true, List, [], ◌∷◌, ◌++◌, slice_set, refl, sym, ap, ◌∙◌, subst, arith, append_assoc}
 use Rattle.ar_base.specs.Lists.{Stands, IsOneOf}
 use Rattle.ar_base.proofs.Standing.{one_left, one_right, one_split, only_item, one_none}
-use Rattle.zdd_families.specs.Families.{Family}
-use Rattle.zdd_families.specs.Sections.{section}
-use Rattle.zdd_families.proofs.Sections.{section-with, section-above, section-low}
+use Rattle.zdd_nodes.specs.Families.{Family}
+use Rattle.zdd_nodes.specs.Sections.{section}
+use Rattle.zdd_nodes.proofs.Sections.{section-with, section-above, section-low}
 use Rattle.zdd_nodes.specs.Nodes.{Stored, family, IsFamilyNumber}
 use Rattle.gate_modules.specs.Ends.{IsSectionAt}
 use Rattle.gate_modules.specs.Ends.IsSectionAt.{empty, taken}
-use Rattle.event_bounds.specs.Bounds.{EndsBelow, HasBelow}
+use Rattle.zdd_nodes.specs.Bounds.{EndsBelow, HasBelow}
 use Rattle.gate_modules.specs.Entries.{IsCovered, AreSeen, AddsSections, AreSectionsAt, IsExit, IsEntryExit}
 use Rattle.gate_modules.proofs.Sections.{section_lower, section_end, starts_above, by_start, ByStart}
 use Rattle.gate_modules.proofs.Sections.ByStart.{with_it, without_it}

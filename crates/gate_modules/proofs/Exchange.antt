@@ -2,20 +2,20 @@
 use Rattle.std.proofs.Common.{◌≡◌, ◌≢◌, ◌⊎◌, inl, inr, ℕ, zero, suc, ◌<◌, ◌≤◌, Bool, true, false, not, ◌&&◌, List, [], ◌∷◌, ◌++◌, drop, length, nat_lt, refl, sym, ap, ap₂, ◌∙◌, subst, arith, true≢false}
 use Rattle.std.specs.List.{AllByRecursion}
 use Rattle.std.proofs.lemmas.Bool.{cases_lt, ltb-false, le-ltb, ltb-true, lt-ltb}
-use Rattle.zdd_families.specs.Families.{Family, has}
-use Rattle.zdd_families.specs.FamiliesInside.{IsInOrder}
-use Rattle.zdd_families.specs.Sections.{section, below}
-use Rattle.zdd_families.proofs.Ascending.{IsAscending, is_ascending}
-use Rattle.zdd_families.proofs.Laws.{each_of}
-use Rattle.zdd_families.proofs.Minimal.{member_of}
-use Rattle.zdd_families.proofs.OneList.{same_sets}
-use Rattle.zdd_families.proofs.Sections.{AtLeast, section-with, section-low, section-nil}
+use Rattle.zdd_nodes.specs.Families.{Family, has}
+use Rattle.zdd_nodes.specs.FamiliesInside.{IsInOrder}
+use Rattle.zdd_nodes.specs.Sections.{section, below}
+use Rattle.zdd_nodes.proofs.Ascending.{IsAscending, is_ascending}
+use Rattle.zdd_nodes.proofs.Laws.{each_of}
+use Rattle.zdd_nodes.proofs.Minimal.{member_of}
+use Rattle.zdd_nodes.proofs.OneList.{same_sets}
+use Rattle.zdd_nodes.proofs.Sections.{AtLeast, section-with, section-low, section-nil}
 use Rattle.zdd_nodes.specs.Nodes.{Stored, family, IsFamilyNumber, IsNode, IsSoundStore}
 use Rattle.gate_modules.specs.Modules.{lies, inside, outside, joined_sets, IsPartOfUnit, IsRest, IsModule}
 use Rattle.gate_modules.specs.declared.ranges.Range.{Range}
 use Rattle.gate_modules.proofs.Sections.{section_end, section_lower, by_start, ByStart}
 use Rattle.gate_modules.proofs.Sections.ByStart.{with_it, without_it}
-use Rattle.event_bounds.proofs.Ending.{ends_at_node}
+use Rattle.zdd_nodes.proofs.Ending.{ends_at_node}
 use Rattle.gate_modules.proofs.Splitting.{AllBelow, all_append, all_left, all_weaker, all_both, all_filter, all_passed, filter_all, filter_none, filter_both, below_all, cut, has_section, in_section, has_some}
 
 -- the range's test, number by number

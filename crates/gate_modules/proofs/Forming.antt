@@ -5,18 +5,18 @@ use Rattle.std.proofs.lemmas.List.{map-append}
 use Rattle.std.proofs.lemmas.List.Folds.{list_any-append}
 use Rattle.ar_base.specs.Lists.{IsOneOf}
 use Rattle.ar_base.proofs.Standing.{one_first, one_rest, one_cases, one_none, stands_map_back, one_here, stands_map}
-use Rattle.zdd_families.specs.Families.{Family, same}
-use Rattle.zdd_families.specs.FamiliesInside.{node, IsAbove}
-use Rattle.zdd_families.specs.Behind.{behind_events}
-use Rattle.zdd_families.proofs.Laws.{IsAbove_set, same-true, same-above, eqb-refl, each_of}
-use Rattle.zdd_families.proofs.Behind.{behind_node}
+use Rattle.zdd_nodes.specs.Families.{Family, same}
+use Rattle.zdd_nodes.specs.FamiliesInside.{node, IsAbove}
+use Rattle.zdd_nodes.specs.Behind.{behind_events}
+use Rattle.zdd_nodes.proofs.Laws.{IsAbove_set, same-true, same-above, eqb-refl, each_of}
+use Rattle.zdd_nodes.proofs.Behind.{behind_node}
 use Rattle.gate_modules.specs.Forms.{AreOfDifferentUnits}
 use Rattle.gate_modules.specs.Modules.{lies}
 use Rattle.gate_modules.specs.Shortened.{ShortForm, touches, is_covered, short_form, units_where, same_form, once}
 use Rattle.gate_modules.specs.ShortenedInside.{event_numbers}
 use Rattle.ar_base.specs.NumbersInside.{EventId}
 use Rattle.zdd_nodes.specs.Nodes.{Stored, family}
-use Rattle.event_bounds.specs.Bounds.{AtLeast}
+use Rattle.zdd_nodes.specs.Bounds.{AtLeast}
 use Rattle.gate_modules.specs.declared.ranges.Range.{Range}
 use Rattle.gate_modules.proofs.Exchange.{AllIn, not_high}
 use Rattle.gate_modules.proofs.Once.{is_new, repeated, once_apart, once_repeated}

@@ -1,12 +1,12 @@
 -- The walk of two families by their numbers.
 use Rattle.std.proofs.Common.{◌≡◌, ◌≢◌, ◌⊎◌, inl, inr, ⊎_elim, ℕ, ◌<◌, [], sym, ap, ◌∙◌, subst, arith}
 use Rattle.std.proofs.lemmas.Bool.{cases_lt}
-use Rattle.zdd_families.specs.Families.{Family}
-use Rattle.zdd_families.specs.FamiliesInside.{node, IsAbove}
+use Rattle.zdd_nodes.specs.Families.{Family}
+use Rattle.zdd_nodes.specs.FamiliesInside.{node, IsAbove}
 use Rattle.zdd_nodes.specs.Nodes.{Stored, family, IsFamilyNumber, IsNode, IsSoundStore}
 use Rattle.zdd_nodes.proofs.Lists.{same_number, some_sets, node_above}
 use Rattle.gate_modules.specs.Ends.{Agree, AgreeSome}
-use Rattle.event_bounds.specs.Bounds.{EndsBelow, HasBelow}
+use Rattle.zdd_nodes.specs.Bounds.{EndsBelow, HasBelow}
 use Rattle.gate_modules.specs.Walked.{HaveTwinFamilies, AgreesSome, AreEnds}
 use Rattle.gate_modules.specs.declared.twins.Question.{Question}
 use Rattle.gate_modules.proofs.Sections.{agree_node, agree_upper, agree_lower, some_node, some_upper, some_lower, differ_first, differ_second, all_agree, none_from_end, none_from_above, agree_ends, ends_agree, ends_some}

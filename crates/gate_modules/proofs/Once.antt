@@ -3,7 +3,7 @@ use Rattle.std.proofs.Common.{◌≡◌, ℕ, zero, suc, Bool, true, false, not,
 use Rattle.std.specs.List.{AllByRecursion, list_any}
 use Rattle.std.proofs.lemmas.List.Elements.{filter-append}
 use Rattle.std.proofs.Math.Bool.{or-true}
-use Rattle.zdd_families.proofs.Laws.{same-refl, not-or}
+use Rattle.zdd_nodes.proofs.Laws.{same-refl, not-or}
 use Rattle.gate_modules.specs.Shortened.{ShortForm, same_form, once}
 
 -- the form is none of these

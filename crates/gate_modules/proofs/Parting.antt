@@ -3,16 +3,16 @@ use Rattle.std.proofs.Common.{◌≡◌, ◌≢◌, ◌⊎◌, inl, inr, ℕ, ze
 use Rattle.std.specs.List.{AllByRecursion}
 use Rattle.std.proofs.lemmas.List.{map-append}
 use Rattle.std.proofs.lemmas.List.Folds.{list_any-append}
-use Rattle.zdd_families.specs.Families.{Family, same, has}
-use Rattle.zdd_families.specs.FamiliesInside.{node, IsAbove}
-use Rattle.zdd_families.specs.Sections.{section}
-use Rattle.zdd_families.specs.Behind.{behind_events}
-use Rattle.zdd_families.proofs.Laws.{IsAbove_set, has_each, each_of, has-with, list_any-map, list_any-none, every}
-use Rattle.zdd_families.proofs.Sections.{section-with, section-above, section-nil}
-use Rattle.zdd_families.proofs.Behind.{behind_node}
+use Rattle.zdd_nodes.specs.Families.{Family, same, has}
+use Rattle.zdd_nodes.specs.FamiliesInside.{node, IsAbove}
+use Rattle.zdd_nodes.specs.Sections.{section}
+use Rattle.zdd_nodes.specs.Behind.{behind_events}
+use Rattle.zdd_nodes.proofs.Laws.{IsAbove_set, has_each, each_of, has-with, list_any-map, list_any-none, every}
+use Rattle.zdd_nodes.proofs.Sections.{section-with, section-above, section-nil}
+use Rattle.zdd_nodes.proofs.Behind.{behind_node}
 use Rattle.zdd_nodes.specs.Nodes.{Stored, family, IsFamilyNumber, IsSoundStore}
 use Rattle.zdd_nodes.proofs.Order.{IsFamily-node, IsFamily-nil, IsFamily-unit}
-use Rattle.event_bounds.specs.Bounds.{EndsBelow, HasBelow}
+use Rattle.zdd_nodes.specs.Bounds.{EndsBelow, HasBelow}
 use Rattle.ar_base.specs.NumbersInside.{EventId}
 use Rattle.gate_modules.specs.ShortenedInside.{event_numbers, set_of}
 use Rattle.gate_modules.specs.declared.ranges.EventSet.{EventSet}

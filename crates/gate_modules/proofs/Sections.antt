@@ -1,11 +1,11 @@
 -- Sections of nodes, by whether the taken events begin with the node's.
 use Rattle.std.proofs.Common.{◌≡◌, ◌≢◌, ◌⊎◌, inl, inr, ⊎_elim, ℕ, ◌<◌, Bool, true, false, cond, ◌&&◌, eqb, List, [], ◌∷◌, length, map, drop, filter, lt-ltb, lt_irrefl, refl, sym, ap, ap₂, ◌∙◌, subst, eqb-true, true≢false}
 use Rattle.std.specs.List.{AllByRecursion}
-use Rattle.zdd_families.specs.Families.{Family, same}
-use Rattle.zdd_families.specs.FamiliesInside.{node, IsAbove}
-use Rattle.zdd_families.specs.Sections.{below, section}
-use Rattle.zdd_families.proofs.Laws.{IsAbove_set, filter-node, filter-none, every, same-refl, eqb-refl, eqb-above}
-use Rattle.zdd_families.proofs.Sections.{AtLeast, section-with, section-above, section-low, section-low_none}
+use Rattle.zdd_nodes.specs.Families.{Family, same}
+use Rattle.zdd_nodes.specs.FamiliesInside.{node, IsAbove}
+use Rattle.zdd_nodes.specs.Sections.{below, section}
+use Rattle.zdd_nodes.proofs.Laws.{IsAbove_set, filter-node, filter-none, every, same-refl, eqb-refl, eqb-above}
+use Rattle.zdd_nodes.proofs.Sections.{AtLeast, section-with, section-above, section-low, section-low_none}
 use Rattle.gate_modules.specs.Ends.{Alike, Agree, AgreeSome}
 
 -- whether the taken events begin with v

@@ -2,11 +2,11 @@
 use Rattle.std.proofs.Common.{◌≡◌, ◌≢◌, ℕ, ◌<◌, ◌≤◌, Bool, true, false, cond, ◌&&◌, ◌||◌, eqb, List, [], ◌∷◌, ◌++◌, length, map, drop, filter, nat_lt, refl, sym, ap, ap₂, ◌∙◌, subst, arith, true≢false}
 use Rattle.std.specs.List.{AllByRecursion}
 use Rattle.std.proofs.lemmas.Bool.{ltb-false, ltb-true}
-use Rattle.zdd_families.specs.Families.{Family, same, has}
-use Rattle.zdd_families.specs.Sections.{below, section}
-use Rattle.zdd_families.proofs.Ascending.{IsAscending}
-use Rattle.zdd_families.proofs.Laws.{IsAbove_set, same-refl, same-true, any_more, eqb-above}
-use Rattle.zdd_families.proofs.Sections.{AtLeast, below-low}
+use Rattle.zdd_nodes.specs.Families.{Family, same, has}
+use Rattle.zdd_nodes.specs.Sections.{below, section}
+use Rattle.zdd_nodes.proofs.Ascending.{IsAscending}
+use Rattle.zdd_nodes.proofs.Laws.{IsAbove_set, same-refl, same-true, any_more, eqb-above}
+use Rattle.zdd_nodes.proofs.Sections.{AtLeast, below-low}
 use Rattle.gate_diagrams.proofs.Filters.{eqb_turned}
 
 -- each number of the list is below the bound

@@ -8,9 +8,9 @@ use Rattle.ar_base.specs.Sets.{Ascends}
 use Rattle.ar_base.proofs.Standing.{one_first, one_rest, one_here, stands_map, stands_map_back, along_on, along_back}
 use Rattle.ar_base.proofs.Truths.{alike}
 use Rattle.ar_firing.proofs.OneListing.{ascending_same}
-use Rattle.zdd_families.specs.Families.{Family, has, holds}
-use Rattle.zdd_families.specs.FamiliesInside.{IsFamily}
-use Rattle.zdd_families.proofs.Minimal.{member_of}
+use Rattle.zdd_nodes.specs.Families.{Family, has, holds}
+use Rattle.zdd_nodes.specs.FamiliesInside.{IsFamily}
+use Rattle.zdd_nodes.proofs.Minimal.{member_of}
 use Rattle.gate_modules.specs.Choices.{IsSetOf, IsChoice, IsChoiceOf, ComesFrom, StandFor}
 use Rattle.gate_modules.specs.Forms.{AreOfDifferentUnits}
 use Rattle.gate_modules.specs.Modules.{lies, inside, IsPartOfUnit, IsModule}

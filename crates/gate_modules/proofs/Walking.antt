@@ -5,23 +5,23 @@ use Rattle.std.proofs.lemmas.Bool.{cases_lt}
 use Rattle.std.proofs.lemmas.Grind.{flat_map-append}
 use Rattle.std.proofs.lemmas.List.{map-append}
 use Rattle.ar_base.specs.Lists.{IsOneOf}
-use Rattle.zdd_families.specs.Families.{Family}
-use Rattle.zdd_families.specs.FamiliesInside.{node, IsAbove}
-use Rattle.zdd_families.specs.Sections.{section}
-use Rattle.zdd_families.specs.Behind.{behind_events}
-use Rattle.zdd_families.proofs.Laws.{IsAbove_set, each_of}
-use Rattle.zdd_families.proofs.Sections.{section-with, section-low, section-nil}
-use Rattle.zdd_families.proofs.Behind.{behind_none}
+use Rattle.zdd_nodes.specs.Families.{Family}
+use Rattle.zdd_nodes.specs.FamiliesInside.{node, IsAbove}
+use Rattle.zdd_nodes.specs.Sections.{section}
+use Rattle.zdd_nodes.specs.Behind.{behind_events}
+use Rattle.zdd_nodes.proofs.Laws.{IsAbove_set, each_of}
+use Rattle.zdd_nodes.proofs.Sections.{section-with, section-low, section-nil}
+use Rattle.zdd_nodes.proofs.Behind.{behind_none}
 use Rattle.zdd_nodes.specs.Nodes.{Stored, family, IsFamilyNumber, IsNode, IsSoundStore, HasHalves}
 use Rattle.gate_modules.specs.Entries.{IsNumberReached, IsExit, IsEntryExit}
 use Rattle.gate_modules.specs.Entries.IsNumberReached.{here, up, down}
 use Rattle.gate_modules.specs.Forms.{AreOfDifferentUnits, GoesOnAlike, PassesTaken, AddsForms, IsSkip}
 use Rattle.gate_modules.specs.Modules.{lies}
 use Rattle.gate_modules.specs.Shortened.{ShortForm, touches, is_covered, short_form, once}
-use Rattle.event_bounds.specs.Bounds.{AtLeast, EndsBelow, HasBelow}
+use Rattle.zdd_nodes.specs.Bounds.{AtLeast, EndsBelow, HasBelow}
 use Rattle.gate_modules.specs.declared.ranges.Range.{Range}
 use Rattle.gate_modules.proofs.Deciding.{event_not_end, first_at_least}
-use Rattle.event_bounds.proofs.Ending.{ends_at_node, ends_at_leaf}
+use Rattle.zdd_nodes.proofs.Ending.{ends_at_node, ends_at_leaf}
 use Rattle.gate_modules.proofs.Entering.{entry_exit_up}
 use Rattle.gate_modules.proofs.Exchange.{AllIn, lies_in, in_lies}
 use Rattle.gate_modules.proofs.Forming.{touches_both, uncovered_in, with_v, without_v, once_uncovered, once_covered}

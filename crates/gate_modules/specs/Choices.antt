@@ -3,7 +3,7 @@ use Rattle.std.specs.Prelude.{◌≡◌, ◌||◌, ℕ, true, List}
 use Rattle.std.specs.List.{list_any}
 use Rattle.ar_base.specs.Lists.{IsOneOf, Along}
 use Rattle.ar_base.specs.Sets.{Ascends}
-use Rattle.zdd_families.specs.Families.{Family, has, holds}
+use Rattle.zdd_nodes.specs.Families.{Family, has, holds}
 use Rattle.gate_modules.specs.Shortened.{UnitSets, ShortForm}
 
 -- the set is one of those of the unit's module

@@ -1,7 +1,7 @@
 -- How the chosen units are gathered.
 use Rattle.std.specs.Prelude.{◌≡◌, ◌⊎◌, ◌<◌, ℕ, List, [], ◌∷◌, ◌++◌}
 use Rattle.ar_base.specs.Lists.{Stands, IsOneOf, Along}
-use Rattle.zdd_families.specs.Families.{Family}
+use Rattle.zdd_nodes.specs.Families.{Family}
 use Rattle.gate_modules.specs.Deciding.{IsModuleWith}
 use Rattle.gate_modules.specs.Modules.{Covers, IsModule, IsRound, IsChosen}
 use Rattle.gate_modules.specs.Shortened.{UnitSets, IsModuleOf}

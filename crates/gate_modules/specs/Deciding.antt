@@ -1,6 +1,6 @@
 -- A module with its parts.
 use Rattle.ar_firing.specs.Listed.{AreListed}
-use Rattle.zdd_families.specs.Families.{Family}
+use Rattle.zdd_nodes.specs.Families.{Family}
 use Rattle.gate_modules.specs.Modules.{IsPartOfUnit, IsModule}
 use Rattle.gate_modules.specs.declared.ranges.Range.{Range}
 

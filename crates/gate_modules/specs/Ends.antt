@@ -1,7 +1,7 @@
 -- What the walks over a diagram find: what follows the events below a bound.
 use Rattle.std.specs.Prelude.{◌≡◌, ◌≢◌, ◌⊎◌, ℕ, List, []}
-use Rattle.zdd_families.specs.Families.{Family}
-use Rattle.zdd_families.specs.Sections.{section}
+use Rattle.zdd_nodes.specs.Families.{Family}
+use Rattle.zdd_nodes.specs.Sections.{section}
 
 -- below the bound both families have these events: the first goes on as X, and the second as Y; or both lack them
 abbrev pub Alike : ℕ → Family → Family → Family → Family → List ℕ → Type 0

@@ -1,11 +1,11 @@
 -- The families that follow the events below a range.
 use Rattle.std.specs.Prelude.{◌≡◌, ◌≢◌, ◌⊎◌, ◌<◌, ◌≤◌, ℕ, Bool, true, false, List, [], ◌++◌}
 use Rattle.ar_base.specs.Lists.{Stands, IsOneOf}
-use Rattle.zdd_families.specs.Families.{Family}
-use Rattle.zdd_families.specs.Sections.{section}
+use Rattle.zdd_nodes.specs.Families.{Family}
+use Rattle.zdd_nodes.specs.Sections.{section}
 use Rattle.zdd_nodes.specs.Nodes.{Stored, family, IsFamilyNumber}
 use Rattle.gate_modules.specs.Ends.{IsSectionAt}
-use Rattle.event_bounds.specs.Bounds.{EndsBelow, HasBelow}
+use Rattle.zdd_nodes.specs.Bounds.{EndsBelow, HasBelow}
 use Rattle.gate_modules.specs.Walked.{AreEnds, AgreesSome, EntryAgrees}
 use Rattle.gate_modules.specs.declared.twins.Question.{Question}
 

@@ -2,13 +2,13 @@
 use Rattle.std.specs.Prelude.{◌≡◌, ◌≢◌, ◌≤◌, ℕ, true, List, [], ◌++◌, map}
 use Rattle.std.specs.List.{AllByRecursion}
 use Rattle.ar_base.specs.Lists.{IsOneOf}
-use Rattle.zdd_families.specs.Families.{Family}
-use Rattle.zdd_families.specs.Sections.{section}
-use Rattle.zdd_families.specs.Behind.{behind_events}
+use Rattle.zdd_nodes.specs.Families.{Family}
+use Rattle.zdd_nodes.specs.Sections.{section}
+use Rattle.zdd_nodes.specs.Behind.{behind_events}
 use Rattle.zdd_nodes.specs.Nodes.{Stored, family, IsFamilyNumber}
 use Rattle.gate_modules.specs.Modules.{lies}
 use Rattle.gate_modules.specs.Shortened.{ShortForm, touches, short_form, once}
-use Rattle.event_bounds.specs.Bounds.{AtLeast, EndsBelow}
+use Rattle.zdd_nodes.specs.Bounds.{AtLeast, EndsBelow}
 use Rattle.gate_modules.specs.Entries.{IsNumberReached}
 use Rattle.gate_modules.specs.declared.ranges.Range.{Range}
 

@@ -2,7 +2,7 @@
 use Rattle.std.specs.Prelude.{◌≡◌, ◌≢◌, ◌≤◌, ◌<◌, ℕ, Bool, true, not, ◌&&◌, List, [], ◌++◌, nat_lt}
 use Rattle.std.specs.List.{filter}
 use Rattle.ar_base.specs.Lists.{Stands, IsOneOf}
-use Rattle.zdd_families.specs.Families.{Family, has}
+use Rattle.zdd_nodes.specs.Families.{Family, has}
 use Rattle.gate_modules.specs.declared.ranges.Range.{Range}
 
 -- the event is one of the range

@@ -1,9 +1,9 @@
 -- The sets of events below a bound.
 use Rattle.std.specs.Prelude.{◌≡◌, ◌≢◌, ℕ, true, List, [], ◌++◌}
-use Rattle.zdd_families.specs.Families.{Family, has}
-use Rattle.zdd_families.specs.FamiliesInside.{IsFamily}
-use Rattle.zdd_families.specs.Sections.{section}
-use Rattle.zdd_families.specs.Behind.{behind_events}
+use Rattle.zdd_nodes.specs.Families.{Family, has}
+use Rattle.zdd_nodes.specs.FamiliesInside.{IsFamily}
+use Rattle.zdd_nodes.specs.Sections.{section}
+use Rattle.zdd_nodes.specs.Behind.{behind_events}
 use Rattle.zdd_nodes.specs.Nodes.{Stored, family}
 
 -- these are the sets of events below the bound that sets of the family begin with

@@ -3,7 +3,7 @@ use Rattle.std.specs.Prelude.{◌≡◌, ℕ, Bool, not, ◌&&◌, List, [], ◌
 use Rattle.std.specs.List.{filter, list_any}
 use Rattle.ar_base.specs.Lists.{Along}
 use Rattle.ar_firing.specs.Listed.{AreListed}
-use Rattle.zdd_families.specs.Families.{Family, same}
+use Rattle.zdd_nodes.specs.Families.{Family, same}
 use Rattle.gate_modules.specs.Modules.{lies, IsPartOfUnit, AreChosen}
 use Rattle.gate_modules.specs.declared.ranges.Range.{Range}
 

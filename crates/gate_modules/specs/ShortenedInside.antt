@@ -1,7 +1,7 @@
 -- Definitions beside those of Shortened, of which clauses inside the program speak: what the whole program promises
 -- does not rest on them.
 use Rattle.std.specs.Prelude.{ℕ, List, map}
-use Rattle.zdd_families.specs.Families.{Family}
+use Rattle.zdd_nodes.specs.Families.{Family}
 use Rattle.ar_base.specs.NumbersInside.{EventId, UnitId}
 use Rattle.gate_modules.specs.declared.ranges.Range.{Range}
 use Rattle.gate_modules.specs.declared.ranges.EventSet.{EventSet}

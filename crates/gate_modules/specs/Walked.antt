@@ -2,7 +2,7 @@
 use Rattle.std.specs.Prelude.{◌≡◌, ℕ, ◌<◌, Bool, true, List}
 use Rattle.ar_base.specs.Lists.{Stands}
 use Rattle.zdd_nodes.specs.Nodes.{Stored, family, IsFamilyNumber}
-use Rattle.event_bounds.specs.Bounds.{EndsBelow}
+use Rattle.zdd_nodes.specs.Bounds.{EndsBelow}
 use Rattle.gate_modules.specs.Ends.{Agree, AgreeSome}
 use Rattle.gate_modules.specs.declared.twins.Twin.{Twin}
 use Rattle.gate_modules.specs.declared.twins.Question.{Question}

@@ -3,16 +3,15 @@
 ghost use Rattle.std.specs.Prelude.{◌≡◌, ◌<◌, ℕ, IfOk, OnOk, length, true, false};
 ghost use Rattle.ar_base.specs.Lists.{Stands};
 ghost use Rattle.zdd_nodes.specs.Nodes.{NodeId, family, IsFamilyNumber};
-ghost use Rattle.event_bounds.specs.Bounds.{EndsBelow, node_numbers};
+ghost use Rattle.zdd_nodes.specs.Bounds.{EndsBelow, node_numbers};
 ghost use Rattle.gate_modules.specs.Walked.{AreTwins};
 ghost use Rattle.gate_modules.specs.Entries.{AreSeen, IsCovered, AddsSections, AreSectionsAt};
 ghost use Rattle.gate_modules.specs.Entries.{IsExit, IsEntryExit, EntriesAnswer};
 
 use crate::twins::{Question, Twin, agree_some};
 use ar_base::Memory;
-use event_bounds::below;
 use std::alloc::Global;
-use zdd_nodes::{NodeId, Store};
+use zdd_nodes::{NodeId, Store, below};
 
 /// An entry of a range that has an event of it, and what follows each of its parts.
 #[derive(Clone, Copy)]

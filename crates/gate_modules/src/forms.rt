@@ -14,9 +14,8 @@ use crate::entries::exit;
 use crate::parts::longer;
 use crate::ranges::{Range, ShortSet};
 use ar_base::{EventId, Memory, UnitId};
-use event_bounds::below;
 use std::alloc::Global;
-use zdd_nodes::{NodeId, Store};
+use zdd_nodes::{NodeId, Store, below};
 
 /// Adds the short forms of the number's sets, each set behind these events, each form once, in the order of the first set
 /// that has it.

@@ -12,9 +12,8 @@ use crate::parts::add_some_parts;
 use crate::ranges::{EventSet, Range};
 use crate::twins::Twin;
 use ar_base::Memory;
-use event_bounds::first_with_event;
 use std::alloc::Global;
-use zdd_nodes::{NodeId, Store};
+use zdd_nodes::{NodeId, Store, first_with_event};
 
 /// The parts of the unit in the order of listing; None exactly where it is no module. A unit without
 /// events takes no time.

@@ -7,9 +7,8 @@ ghost use Rattle.gate_modules.specs.Parts.{AddsHeads, AddsSomeHeads};
 
 use crate::ranges::EventSet;
 use ar_base::{EventId, Memory};
-use event_bounds::below;
 use std::alloc::Global;
-use zdd_nodes::{NodeId, Store};
+use zdd_nodes::{NodeId, Store, below};
 
 /// Adds the nonempty sets of events below the bound that sets of the number's family begin with, in the order of listing,
 /// behind the sets that were found before.

@@ -5,8 +5,7 @@ ghost use Rattle.zdd_nodes.specs.Nodes.{Stored, IsFamilyNumber};
 ghost use Rattle.gate_modules.specs.Walked.{AreTwins, IsAskedPair, AreEnds, SaysWhether, HaveTwinFamilies};
 ghost use Rattle.gate_modules.specs.Walked.{AgreesSome};
 
-use event_bounds::{below, both_end};
-use zdd_nodes::{NodeId, Store};
+use zdd_nodes::{NodeId, Store, below, both_end};
 
 /// Two families that were found to agree: the number of the second, and those of what follows.
 #[derive(Clone, Copy)]

@@ -8,8 +8,8 @@ use Rattle.eq_core.specs.Ordered.{AreBelow, AreOrdered, IsOrderedTable}
 use Rattle.eq_core.specs.Values.{signed, operand_at, joint_at, values_at, value_at}
 use Rattle.eq_core.specs.ValuesInside.{IsBelow, GainsGates}
 use Rattle.eq_core.proofs.Telling.{gate_value, place_below, turned, opposite_below, value_kept, below_kept}
-use Rattle.gate_cones.specs.Cones.{own, named}
-use Rattle.gate_cones.specs.Marks.{AreConeMarks}
+use Rattle.eq_core.specs.Cones.{own, named}
+use Rattle.eq_core.specs.Marks.{AreConeMarks}
 use Rattle.gate_sharing.specs.Images.{with_sign, image, needed_for, RestsOnGate, IsGateImage, AreImages}
 use Rattle.gate_sharing.specs.Simplified.{HaveSameValues}
 use Rattle.gate_sharing.proofs.Alls.{one_unmapped}

@@ -7,7 +7,7 @@ use Rattle.eq_core.specs.Values.{signed, joint_at, values_at, value_at}
 use Rattle.eq_core.specs.ValuesInside.{IsBelow, GainsGates}
 use Rattle.eq_core.specs.Views.{operand_of}
 use Rattle.eq_core.specs.declared.joints.Operand as code
-use Rattle.gate_cones.specs.Cones.{InGateCone}
+use Rattle.eq_core.specs.Cones.{InGateCone}
 
 -- the operand, or its opposite
 abbrev pub with_sign : Bool → Operand → Operand

@@ -12,8 +12,7 @@ use crate::literals::{Literal, for_joint, negated};
 use crate::sharing::Sharing;
 use crate::unshared::Unshared;
 use ar_base::Memory;
-use eq_core::{Equations, Gate, Operand};
-use gate_cones::cone;
+use eq_core::{Equations, Gate, Operand, cone};
 use std::alloc::Global;
 
 // How many steps votes may take for each gate of the table, all together: so time and memory are linear in its size.

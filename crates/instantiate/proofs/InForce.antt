@@ -26,7 +26,7 @@ use Rattle.unit_rules.specs.Typing.{bounds_variables}
 use Rattle.unit_rules.proofs.Sited.{one_flat}
 use Rattle.instantiate.specs.Nodes.{IsNodeSo}
 use Rattle.instantiate.specs.Values.{KeepsDeclarations, declared_type, last_target_word}
-use Rattle.settings_in_force.specs.InForce.{AreAttribute, none, some}
+use Rattle.instantiate.specs.InForce.{AreAttribute, none, some}
 use Rattle.instantiate.proofs.Named.{IsGivenAt, given_at, DeclaredBy, declares_owned}
 
 module _ (m : RootedModel) (units : List UnitPath) (t : Thing) (g : NamedMember) (d : MemNode)

@@ -6,3 +6,7 @@ pub mod Noded
 pub mod OneName
 pub mod Parametered
 pub mod Ruled
+mod Depth
+mod Dropped
+mod PlacesTold
+mod Upward

@@ -7,9 +7,11 @@
 mod domains_of;
 mod listing;
 mod nodes;
+mod outermost;
 mod parameter_lists;
 mod plain;
 mod rules;
+mod setting_places;
 mod types_of;
 mod unfolding;
 mod values;

@@ -11,17 +11,17 @@ ghost use Rattle.hierarchy.specs.Tie.{IsParameterNode};
 ghost use Rattle.hierarchy.specs.Tie.{AreOutlines};
 ghost use Rattle.unit_rules.specs.TypingInside.{KnowsPlaces};
 ghost use Rattle.instantiate.specs.Nodes.{IsNodeSo};
-ghost use Rattle.settings_in_force.specs.SettingPlaces.{TellsSettings};
+ghost use Rattle.instantiate.specs.SettingPlaces.{TellsSettings};
 ghost use Rattle.instantiate.specs.Values.{parameter_type};
 
 use crate::domains_of::domain_of;
 use crate::nodes::{Listed, nodes};
+use crate::setting_places::SettingPlaces;
 use crate::values::value_of;
 use ar_base::Memory;
 use ar_syntax::{Member, TypeForm, Word};
 use class_table::{Classes, Owned, owned_at};
 use hierarchy::{Attribute, MemNode, Outline, ParNode};
-use settings_in_force::SettingPlaces;
 use std::alloc::Global;
 use unit_rules::TypePlaces;
 

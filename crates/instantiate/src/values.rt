@@ -9,12 +9,13 @@ ghost use Rattle.hierarchy.specs.Settings.{target_word_of, target_in, declared_i
 ghost use Rattle.ar_syntax.specs.declared.expressions.RawExpr.{RawExpr};
 ghost use Rattle.hierarchy.specs.Tie.{IsThingNode, HasAttribute};
 ghost use Rattle.hierarchy.specs.Tie.{AreOutlines};
-ghost use Rattle.settings_in_force.specs.SettingPlaces.{TellsSettings};
+ghost use Rattle.instantiate.specs.SettingPlaces.{TellsSettings};
 
+use crate::outermost::outermost;
+use crate::setting_places::SettingPlaces;
 use ar_base::Memory;
 use ar_syntax::Word;
 use hierarchy::{Attribute, MemNode, Outline, Source};
-use settings_in_force::{SettingPlaces, outermost};
 use std::alloc::Global;
 
 /// The value in force of a thing that is set by this target: what the outermost unit sets, else what its own member

@@ -11,18 +11,18 @@ ghost use Rattle.hierarchy.specs.Tie.{IsVariableNode};
 ghost use Rattle.hierarchy.specs.Tie.{AreOutlines};
 ghost use Rattle.unit_rules.specs.TypingInside.{KnowsPlaces};
 ghost use Rattle.instantiate.specs.Nodes.{IsNodeSo};
-ghost use Rattle.settings_in_force.specs.SettingPlaces.{TellsSettings};
+ghost use Rattle.instantiate.specs.SettingPlaces.{TellsSettings};
 ghost use Rattle.instantiate.specs.Values.{KeepsDeclarations, AddsVariable, last_target_word};
 
 use crate::domains_of::domain_of;
 use crate::nodes::{Listed, nodes};
+use crate::setting_places::SettingPlaces;
 use crate::types_of::type_of;
 use crate::values::value_of;
 use ar_base::Memory;
 use ar_syntax::Word;
 use class_table::{Classes, owned_at};
 use hierarchy::{MemNode, Outline, VarNode};
-use settings_in_force::SettingPlaces;
 use std::alloc::Global;
 use unit_rules::{TypePlaces, is_state, settings_of};
 

@@ -18,8 +18,8 @@ use Rattle.job_inputs.specs.Labels.{IsLabel, NeedsWay}
 use Rattle.job_inputs.specs.Lines.{lines_of, pieces, is_some_word}
 use Rattle.job_inputs.specs.Reads.{AnswersLabel}
 use Rattle.job_inputs.specs.Scripts.{Why, IsNoCommand, LacksWay, NamesNoEvent}
-use Rattle.job_inputs.specs.declared.commands.ScriptFault.{ScriptFault}
-use Rattle.job_inputs.specs.declared.commands.ScriptFault.TheVariants as faults
+use Rattle.job_inputs.specs.declared.faults.ScriptFault.{ScriptFault}
+use Rattle.job_inputs.specs.declared.faults.ScriptFault.TheVariants as faults
 
 -- Labels
 

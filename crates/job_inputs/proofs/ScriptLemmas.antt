@@ -17,8 +17,8 @@ use Rattle.job_inputs.specs.Scripts as scripts
 use Rattle.job_inputs.specs.Reads.{AddsCommands, AnswersLabel, ReachedLine, IsBadLine, lines_left, bytes_left}
 use Rattle.job_inputs.specs.declared.commands.Command.{Command as Code}
 use Rattle.job_inputs.specs.declared.commands.Command.TheVariants as code
-use Rattle.job_inputs.specs.declared.commands.ScriptFault.{ScriptFault}
-use Rattle.job_inputs.specs.declared.commands.ScriptFault.TheVariants as faults
+use Rattle.job_inputs.specs.declared.faults.ScriptFault.{ScriptFault}
+use Rattle.job_inputs.specs.declared.faults.ScriptFault.TheVariants as faults
 
 -- Lines that are not bad
 

@@ -27,7 +27,7 @@ use Rattle.job_inputs.specs.Flat.{IsOfTree}
 use Rattle.text_pieces.specs.WayLabels.{numbered_label, way_label_found, ways_found}
 use Rattle.job_inputs.specs.Labels.{Spells, NamesEvent, NamesVisible, IsLabel, path, numbered, NeedsWay}
 use Rattle.job_inputs.specs.Reads.{has_mark, AnswersEvent, AnswersVisible, IsVisible, AnswersLabel, IsWayCount, IsUnlessHidden, IsNumberedWay, IsNoWayOf}
-use Rattle.job_inputs.specs.declared.commands.ScriptFault.TheVariants as fault
+use Rattle.job_inputs.specs.declared.faults.ScriptFault.TheVariants as fault
 use Rattle.job_inputs.specs.declared.script_labels.Counted.TheVariants as count
 use Rattle.job_inputs.proofs.MarkLemmas.{decimal_unmarked, last_mark, unmarked}
 use Rattle.job_inputs.proofs.EventLemmas.{events_different, one_thing, one_spelling}

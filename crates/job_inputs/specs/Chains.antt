@@ -10,8 +10,8 @@ use Rattle.gts_flatten.specs.Elaborating.{Elaborated}
 use Rattle.job_inputs.specs.CutLists.{CutLine, CutList}
 use Rattle.text_pieces.specs.WayLabels.{numbered_label}
 use Rattle.job_inputs.specs.Scripts.{IsNoCommand, LacksWay, NamesNoEvent}
-use Rattle.job_inputs.specs.declared.commands.ScriptFault.{ScriptFault}
-use Rattle.job_inputs.specs.declared.commands.ScriptFault.TheVariants as fault
+use Rattle.job_inputs.specs.declared.faults.ScriptFault.{ScriptFault}
+use Rattle.job_inputs.specs.declared.faults.ScriptFault.TheVariants as fault
 
 -- the labels of these ways
 abbrev pub chain_labels : GtsParts → List WayId → List Label

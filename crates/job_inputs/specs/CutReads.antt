@@ -13,8 +13,8 @@ use Rattle.job_inputs.specs.CutLists.{CutLine, ListsCutLines, IsBadLabel, IsFirs
 use Rattle.job_inputs.specs.Labels.{IsLabel}
 use Rattle.job_inputs.specs.Lines.{pieces}
 use Rattle.job_inputs.specs.Scripts.{Why, IsNoCommand, LacksWay, NamesNoEvent}
-use Rattle.job_inputs.specs.declared.commands.ScriptFault.{ScriptFault}
-use Rattle.job_inputs.specs.declared.commands.ScriptFault.TheVariants as fault
+use Rattle.job_inputs.specs.declared.faults.ScriptFault.{ScriptFault}
+use Rattle.job_inputs.specs.declared.faults.ScriptFault.TheVariants as fault
 use Rattle.job_inputs.specs.declared.cut_lines.ListLine.{ListLine}
 use Rattle.job_inputs.specs.declared.cut_lines.ListLine.TheVariants.{Passed, Labels, NoCut}
 

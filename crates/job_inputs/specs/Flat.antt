@@ -12,8 +12,8 @@ use Rattle.hierarchy.specs.declared.tree.Tree.{Tree}
 use Rattle.job_inputs.specs.Scripts.{Commands, IsNoCommand, LacksWay, NamesNoEvent}
 use Rattle.job_inputs.specs.declared.commands.Command.{Command}
 use Rattle.job_inputs.specs.declared.commands.Command.TheVariants.{Fire, Back, Show, Enabled}
-use Rattle.job_inputs.specs.declared.commands.ScriptFault.{ScriptFault}
-use Rattle.job_inputs.specs.declared.commands.ScriptFault.TheVariants.{Line, Unknown, Which, Memory}
+use Rattle.job_inputs.specs.declared.faults.ScriptFault.{ScriptFault}
+use Rattle.job_inputs.specs.declared.faults.ScriptFault.TheVariants.{Line, Unknown, Which, Memory}
 use Rattle.text_pieces.specs.WayLabels.{numbered_label}
 
 -- a command by the label of its way

@@ -14,8 +14,8 @@ use Rattle.text_pieces.specs.WayLabels.{numbered_label, ways_found}
 use Rattle.job_inputs.specs.Labels.{is_dot, Spells, NamesEvent, NamesVisible, IsLabel, NeedsWay}
 use Rattle.job_inputs.specs.Lines.{ScriptLine, Skipped, Fires, GoesBack, Shows, ListsEnabled, NoCommand, pieces, lines_of}
 use Rattle.job_inputs.specs.Scripts.{IsBad, IsNoCommand, LacksWay, NamesNoEvent, Why, GivesCommands}
-use Rattle.job_inputs.specs.declared.commands.ScriptFault.{ScriptFault}
-use Rattle.job_inputs.specs.declared.commands.ScriptFault.TheVariants as fault
+use Rattle.job_inputs.specs.declared.faults.ScriptFault.{ScriptFault}
+use Rattle.job_inputs.specs.declared.faults.ScriptFault.TheVariants as fault
 use Rattle.job_inputs.specs.declared.lines.Line as code
 use Rattle.job_inputs.specs.declared.script_labels.Counted.{Counted}
 use Rattle.job_inputs.specs.declared.script_labels.Counted.TheVariants as count

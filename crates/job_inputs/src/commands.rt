@@ -1,18 +1,19 @@
 //! The commands of a script.
 
-ghost use Rattle.std.specs.Prelude.{◌≡◌, ◌≤◌, length, map, IfErr, OnOk};
+ghost use Rattle.std.specs.Prelude.{◌≤◌, length, map, IfErr, OnOk};
 ghost use Rattle.ar_base.specs.Counts.{limit_of};
 ghost use Rattle.ar_base.specs.declared.counts.Count.TheVariants.{ScriptBytes};
 ghost use Rattle.gts_flatten.specs.Elaborating.{Elaborated};
 ghost use Rattle.job_inputs.specs.Flat.{command_of, AreFirable, IsOfTree, AnswersScript};
 ghost use Rattle.job_inputs.specs.Reads.{AddsCommands, IsBadLine};
 
+use crate::faults::ScriptFault;
 use crate::lines::{Line, first_line, line_of};
 use crate::script_labels::way_named;
-use ar_base::{Memory, WayId};
+use ar_base::WayId;
 use gts_core::Gts;
 use hierarchy::Tree;
-use std::alloc::{AllocFailed, Global};
+use std::alloc::Global;
 
 /// A command of a script.
 #[derive(Clone, Copy)]
@@ -25,41 +26,6 @@ pub enum Command {
     Show,
     /// Lists the visible ways that can fire.
     Enabled,
-}
-
-/// Why a script gives no commands. Lines count from 1.
-#[derive(Clone, Copy)]
-pub enum ScriptFault {
-    /// The line is no command.
-    Line(u32),
-    /// The label in the line names no way of a visible event.
-    Unknown(u32),
-    /// The label in the line is the path of an event with two ways or more, and does not say which.
-    Which(u32),
-    /// Memory was refused.
-    Memory,
-}
-
-impl From<Memory> for ScriptFault {
-    ghost use Rattle.std.specs.Prelude.{◌≡◌};
-    ghost use Rattle.job_inputs.specs.declared.commands.ScriptFault.TheVariants as fault;
-
-    ghost from_gives = { λ _ e. e ≡ fault.Memory };
-
-    fn from(_memory: Memory) -> Self {
-        ScriptFault::Memory
-    }
-}
-
-impl<T: Drop> From<AllocFailed<T>> for ScriptFault {
-    ghost use Rattle.std.specs.Prelude.{◌≡◌};
-    ghost use Rattle.job_inputs.specs.declared.commands.ScriptFault.TheVariants as fault;
-
-    ghost from_gives = { λ _ e. e ≡ fault.Memory };
-
-    fn from(_failed: AllocFailed<T>) -> Self {
-        ScriptFault::Memory
-    }
 }
 
 /// The commands of the lines of a script on the flat system of a tree, or the first line that is bad.

@@ -10,9 +10,9 @@ ghost use Rattle.job_inputs.specs.CutReads.{AddsCuts, IsBadCutLine, AnswersLabel
 ghost use Rattle.job_inputs.specs.Flat.{IsOfTree};
 ghost use Rattle.job_inputs.specs.Lines.{pieces};
 
-use crate::commands::ScriptFault;
 use crate::cut_lines::{ListLine, list_line, trimmed};
 use crate::cutting::first_piece;
+use crate::faults::ScriptFault;
 use crate::lines::first_line;
 use crate::script_labels::way_named;
 use ar_base::WayId;

@@ -7,7 +7,7 @@ ghost use Rattle.job_inputs.specs.Flat.{IsOfTree};
 ghost use Rattle.job_inputs.specs.Labels.{NamesVisible};
 ghost use Rattle.job_inputs.specs.Reads.{AnswersLabel, IsWayCount, IsNumberedWay, IsNoWayOf};
 
-use crate::commands::ScriptFault;
+use crate::faults::ScriptFault;
 use crate::paths::visible_at;
 use crate::way_numbers::{marked, way_of};
 use ar_base::{EventId, WayId};

@@ -16,10 +16,10 @@ use Rattle.job_stages.specs.Tells.{Tells}
 use Rattle.job_stages.specs.declared.refusals.Refusal.{Refusal}
 use Rattle.job_stages.specs.declared.status.Status.{Status}
 use Rattle.source_laws.specs.Sources.{SameSource}
-use Rattle.ready_laws.specs.Ready.{SameReady}
+use Rattle.job_laws.specs.Ready.{SameReady}
 use Rattle.job_laws.specs.Definite.{IsDefinite, SaysOf, AgreeButNodes}
 use Rattle.job_laws.specs.Definite as says
-use Rattle.unit_laws.specs.Answers.{SameAnswer}
+use Rattle.source_laws.specs.Answers.{SameAnswer}
 use Rattle.job_laws.proofs.Asking.{OneList}
 use Rattle.job_laws.proofs.Demanding.{readies_one}
 use Rattle.job_laws.proofs.Stages.{same_err, ok_err}

@@ -12,8 +12,8 @@ use Rattle.job_stages.specs.declared.refusals.Refusal.{Refusal}
 use Rattle.job_stages.specs.declared.status.Status.{Status}
 use Rattle.job_stages.specs.declared.status.Status.TheVariants as status
 use Rattle.altarica_run.proofs.FollowLemmas.{meaning_of}
-use Rattle.unit_laws.specs.Answers.{SameAnswer}
-use Rattle.ready_laws.specs.Ready.{SameReady}
+use Rattle.source_laws.specs.Answers.{SameAnswer}
+use Rattle.job_laws.specs.Ready.{SameReady}
 use Rattle.job_laws.specs.Definite.{AgreeButNodes}
 use Rattle.job_laws.specs.Told.{IsStopped, IsAnswered, IsToldAs}
 

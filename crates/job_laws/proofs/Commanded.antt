@@ -2,7 +2,7 @@
 use Rattle.std.proofs.Common.{◌≡◌, ◌⊎◌, ℕ, List, Some, inl, inr, subst}
 use Rattle.replayer.specs.Replays.{IsReplay}
 use Rattle.replayer.specs.Settles.{IsFaultLine}
-use Rattle.replayer.specs.declared.replaying.End.{End}
+use Rattle.replayer.specs.declared.ends.End.{End}
 use Rattle.gts_flatten.specs.Flat.{naming_of}
 use Rattle.hierarchy.specs.Listing.{variables}
 use Rattle.job_inputs.specs.declared.wanting.Wanted.{Wanted}

@@ -15,9 +15,9 @@ use Rattle.job_stages.specs.declared.refusals.Refusal.{Refusal}
 use Rattle.job_stages.specs.declared.status.Status.{Status}
 use Rattle.job_stages.specs.declared.status.Status.TheVariants as status
 use Rattle.altarica_run.proofs.FollowLemmas.{meaning_of}
-use Rattle.ready_laws.specs.Ready.{SameReady}
+use Rattle.job_laws.specs.Ready.{SameReady}
 use Rattle.job_laws.specs.Listings.{IsListingOf}
-use Rattle.unit_laws.specs.Answers.{SameAnswer}
+use Rattle.source_laws.specs.Answers.{SameAnswer}
 use Rattle.job_laws.proofs.Enough.{nodes_line_told}
 use Rattle.job_laws.proofs.Findings.{conflict_text}
 

@@ -1,8 +1,8 @@
 -- A job that tells of cuts with nodes enough; and one of which the line `nodes: N` is told.
 use Rattle.std.proofs.Common.{◌≡◌, ◌⊎◌, ℕ, List, Result, Ok, Err, inl, inr, true, refl, subst}
 use Rattle.ar_io.specs.Outside.{Told}
-use Rattle.replayer.specs.declared.replaying.End.{End}
-use Rattle.replayer.specs.declared.replaying.End.TheVariants as end
+use Rattle.replayer.specs.declared.ends.End.{End}
+use Rattle.replayer.specs.declared.ends.End.TheVariants as end
 use Rattle.run_words.specs.declared.jobs.Asked.{Asked}
 use Rattle.run_words.specs.Jobs.{IsAsked}
 use Rattle.altarica_run.specs.Follows.{Call}
@@ -12,8 +12,8 @@ use Rattle.job_stages.specs.Tells.{MayNeedMore, Tells, nodes_line, status_at, ch
 use Rattle.job_stages.specs.declared.refusals.Refusal.{Refusal}
 use Rattle.job_stages.specs.declared.status.Status.{Status}
 use Rattle.job_stages.specs.declared.status.Status.TheVariants as status
-use Rattle.unit_laws.specs.Answers.{SameAnswer}
-use Rattle.ready_laws.specs.Ready.{SameReady}
+use Rattle.source_laws.specs.Answers.{SameAnswer}
+use Rattle.job_laws.specs.Ready.{SameReady}
 use Rattle.job_laws.specs.Told.{IsStopped, IsAnswered, IsToldWith}
 use Rattle.job_laws.proofs.Answering.{TellsBack}
 

@@ -31,9 +31,9 @@ use Rattle.run_words.specs.declared.verbs.Verb.TheVariants.{Check, Flat, Replay,
 use Rattle.run_words.specs.Jobs.{IsAsked}
 use Rattle.source_meaning.specs.Systems.{Declarations, AreOf}
 use Rattle.typed_expr.specs.declared.expr.Expr.{Expr}
-use Rattle.zdd_families.specs.Families.{has}
-use Rattle.zdd_families.proofs.Laws.{has_each}
-use Rattle.zdd_families.proofs.Minimal.{member_of}
+use Rattle.zdd_nodes.specs.Families.{has}
+use Rattle.zdd_nodes.proofs.Laws.{has_each}
+use Rattle.zdd_nodes.proofs.Minimal.{member_of}
 use Rattle.job_stages.specs.Elaborates.{Elaborates, rooted, reads}
 use Rattle.job_stages.specs.Elaborates as e
 use Rattle.altarica_run.specs.Follows.{Call, Gave, Wrote}

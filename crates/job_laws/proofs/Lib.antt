@@ -31,3 +31,18 @@ pub mod Stages
 pub mod Tabled
 pub mod Telling
 pub mod Unread
+mod ReadyAsking
+mod Carrying
+mod Conflicts
+mod ReadyDemanding
+mod Families
+mod ReadyFlats
+mod Inputs
+mod ReadyLabels
+mod Lists
+mod ReadyModules
+mod Runs
+mod Shared
+mod Tables
+mod ReadyTelling
+mod Turned

@@ -16,7 +16,7 @@ use Rattle.run_words.specs.declared.jobs.Asked.{Asked}
 use Rattle.run_words.specs.declared.verbs.Verb.{Verb}
 use Rattle.run_words.specs.declared.verbs.Verb.TheVariants as verb
 use Rattle.typed_expr.specs.declared.expr.Expr.{Expr}
-use Rattle.zdd_families.specs.Sections.{IsCounted, IsMoreThan}
+use Rattle.zdd_nodes.specs.Sections.{IsCounted, IsMoreThan}
 use Rattle.altarica_run.specs.Follows.{Call, Wrote}
 use Rattle.job_stages.specs.Stages.{Ready, lists_cuts}
 use Rattle.job_stages.specs.Tells.{HasCuts, Tells, nodes_line, check, flat, replay, fragment, equations, cuts, make, checks, in_short, explains, unsettled, conflict, nodes}

@@ -24,7 +24,7 @@ use Rattle.hierarchy.specs.Units.{UnitPath, Thing}
 use Rattle.module_text.specs.Ranges.{AreRangesOf}
 use Rattle.module_text.specs.Texts.{short_text, IsModuleText}
 use Rattle.typed_expr.specs.declared.expr.Expr.{Expr}
-use Rattle.zdd_families.specs.Families.{Family}
+use Rattle.zdd_nodes.specs.Families.{Family}
 use Rattle.job_laws.proofs.Labels.{along_one}
 
 -- The events of a range

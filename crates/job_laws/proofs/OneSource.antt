@@ -15,8 +15,8 @@ use Rattle.hierarchy.specs.Listing.{Unfolded}
 use Rattle.instantiate.specs.Unfolding.{Instantiates}
 use Rattle.source_meaning.specs.Systems.{Binds}
 use Rattle.gts_flatten.specs.Elaborating.{Elaborated, Flattens}
-use Rattle.unit_laws.specs.Answers.{SameAnswer}
-use Rattle.unit_laws.specs.Units.{SameUnfolded}
+use Rattle.source_laws.specs.Answers.{SameAnswer}
+use Rattle.source_laws.specs.Units.{SameUnfolded}
 use Rattle.source_laws.specs.Sources.{SameSource}
 use Rattle.job_stages.specs.Elaborates.{reads, Tables, Systems, Ruled, breaks, exceeds, Elaborates}
 use Rattle.job_stages.specs.Elaborates as e

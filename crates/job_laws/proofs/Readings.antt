@@ -18,7 +18,7 @@ use Rattle.ar_syntax.specs.declared.items.Model.{Model}
 use Rattle.job_stages.specs.Elaborates.{Parses, reads, no_tokens, no_reading, too_deep}
 use Rattle.job_stages.specs.declared.refusals.Refusal.{Refusal}
 use Rattle.job_stages.specs.declared.refusals.Refusal.TheVariants.{Syntax}
-use Rattle.unit_laws.specs.Answers.{SameAnswer}
+use Rattle.source_laws.specs.Answers.{SameAnswer}
 
 -- a text without tokens has none that are refused, or read
 no_refusal : (text : List ℕ) (P : Tokens → Tokens → Type 0) (p q : Place) → HasFaultAt text p → IsRefusedAt P text q

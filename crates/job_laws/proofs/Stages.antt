@@ -1,7 +1,7 @@
 -- Stages that have one answer each.
 use Rattle.std.proofs.Common.{◌≡◌, Bool, true, false, Result, Ok, Err, sym, ◌∙◌, ap, subst}
 use Rattle.ar_base.specs.Stages.{Then, refuses, passes, Where}
-use Rattle.unit_laws.specs.Answers.{SameAnswer}
+use Rattle.source_laws.specs.Answers.{SameAnswer}
 
 -- the stage has one answer, where P holds of what it is given
 abbrev pub IsOne : {A B R : Type 0} → (A → Type 0) → (A → Result B R → Type 0) → Type 0

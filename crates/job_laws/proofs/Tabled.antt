@@ -9,8 +9,8 @@ use Rattle.ar_base.specs.declared.faults.RuleFault.TheVariants as fault
 use Rattle.ar_base.specs.declared.places.Place.{Place}
 use Rattle.ar_parser.specs.Models.{Reads, ReadsWithin}
 use Rattle.ar_syntax.specs.declared.items.Model.{Model}
-use Rattle.unit_laws.specs.Answers.{SameAnswer}
-use Rattle.unit_laws.specs.Tables.{AreSeenAlike}
+use Rattle.source_laws.specs.Answers.{SameAnswer}
+use Rattle.source_laws.specs.Tables.{AreSeenAlike}
 use Rattle.class_table.specs.Declaring.{Declared, IsDeclared}
 use Rattle.class_table.specs.Rules.{BreaksTextRule, text_rules}
 use Rattle.class_table.proofs.OneRefusal.{breach_one}

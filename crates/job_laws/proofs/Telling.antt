@@ -29,7 +29,7 @@ use Rattle.reason_text.proofs.Source.{text_one}
 use Rattle.replayer.specs.Replays.{IsReplay, end_of}
 use Rattle.replayer.specs.Settles.{IsFaultLine}
 use Rattle.replayer.proofs.SettledOnce.{settled_one, not_settled}
-use Rattle.replayer.specs.declared.replaying.End.{End}
+use Rattle.replayer.specs.declared.ends.End.{End}
 use Rattle.run_words.specs.declared.jobs.Asked.{Asked}
 use Rattle.run_words.specs.declared.verbs.Verb.{Verb}
 use Rattle.run_words.specs.declared.verbs.Verb.TheVariants as verb

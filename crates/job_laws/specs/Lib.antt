@@ -4,3 +4,4 @@ pub mod Listings
 pub mod Named
 pub mod Runs
 pub mod Told
+pub mod Ready

@@ -3,7 +3,7 @@ use Rattle.run_words.specs.declared.jobs.Asked.{Asked}
 use Rattle.altarica_run.specs.Follows.{Call}
 use Rattle.altarica_run.specs.Listings.{IsListing}
 use Rattle.job_stages.specs.Stages.{Ready}
-use Rattle.ready_laws.specs.Ready.{SameReady}
+use Rattle.job_laws.specs.Ready.{SameReady}
 
 -- what was written is the listing of a job that stands ready like this one
 pub record IsListingOf (c : Call) (asked : Asked) (w : Ready) : Type 0 where

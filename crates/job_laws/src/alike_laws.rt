@@ -7,16 +7,16 @@ ghost use Rattle.job_stages.specs.Elaborates.{Elaborates};
 ghost use Rattle.job_stages.specs.Stages.{Ready, Readies};
 ghost use Rattle.job_stages.specs.declared.refusals.Refusal.{Refusal};
 ghost use Rattle.job_stages.specs.declared.status.Status.{Status};
-ghost use Rattle.unit_laws.specs.Answers.{SameAnswer};
+ghost use Rattle.source_laws.specs.Answers.{SameAnswer};
 ghost use Rattle.source_laws.specs.Sources.{SameSource};
-ghost use Rattle.ready_laws.specs.Ready.{SameReady};
+ghost use Rattle.job_laws.specs.Ready.{SameReady};
 ghost use Rattle.job_laws.specs.Definite.{IsDefinite, SaysOf, AgreeButNodes};
 
+use crate::ready_jobs::jobs_agree;
 use job_inputs::laws::one_list;
 use parser_laws::readings::one_reading;
-use ready_laws::laws::jobs_agree;
+use source_laws::laws::{texts_are_seen_alike, texts_break_the_same_rules};
 use source_laws::sources::one_source_of_a_text;
-use unit_laws::laws::{texts_are_seen_alike, texts_break_the_same_rules};
 
 /// Jobs of sources that are alike have at most one answer.
 ///

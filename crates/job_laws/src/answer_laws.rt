@@ -5,9 +5,9 @@ ghost use Rattle.ar_base.specs.Breach.{IsBroken};
 ghost use Rattle.ar_base.specs.Stages.{Then};
 ghost use Rattle.ar_base.specs.declared.faults.RuleFault.{RuleFault};
 ghost use Rattle.ar_base.specs.declared.places.Place.{Place};
-ghost use Rattle.unit_laws.specs.Answers.{SameAnswer};
-ghost use Rattle.unit_laws.specs.Tables.{AreSeenAlike};
-ghost use Rattle.unit_laws.specs.Units.{SameUnfolded};
+ghost use Rattle.source_laws.specs.Answers.{SameAnswer};
+ghost use Rattle.source_laws.specs.Tables.{AreSeenAlike};
+ghost use Rattle.source_laws.specs.Units.{SameUnfolded};
 ghost use Rattle.class_table.specs.Declaring.{Declared, IsDeclared};
 ghost use Rattle.class_table.specs.Rules.{BreaksTextRule, text_rules};
 ghost use Rattle.hierarchy.specs.Models.{RootedModel};
@@ -41,8 +41,8 @@ use altarica_run::laws::{one_job, one_loading};
 use job_inputs::laws::one_list;
 use module_text::laws::combinations_are_cuts;
 use parser_laws::readings::one_reading;
-use unit_laws::laws::{texts_are_seen_alike, texts_break_the_same_rules};
-use unit_laws::units::one_tree_of_a_text;
+use source_laws::laws::{texts_are_seen_alike, texts_break_the_same_rules};
+use source_laws::units::one_tree_of_a_text;
 
 /// However a text is read, each stage of its model has at most one answer.
 ///

@@ -10,6 +10,7 @@ pub mod causes;
 pub mod flat_laws;
 pub mod one_answer;
 pub mod order_laws;
+pub mod ready_jobs;
 pub mod real_runs;
 pub mod told;
 pub mod word_laws;

@@ -14,17 +14,17 @@ ghost use Rattle.job_stages.specs.Tells.{MayNeedMore};
 ghost use Rattle.job_stages.specs.declared.refusals.Refusal.{Refusal};
 ghost use Rattle.job_stages.specs.declared.status.Status.{Status};
 ghost use Rattle.job_stages.specs.declared.status.Status.TheVariants as status;
-ghost use Rattle.unit_laws.specs.Answers.{SameAnswer};
-ghost use Rattle.ready_laws.specs.Ready.{SameReady};
+ghost use Rattle.source_laws.specs.Answers.{SameAnswer};
+ghost use Rattle.job_laws.specs.Ready.{SameReady};
 ghost use Rattle.job_laws.specs.Definite.{AgreeButNodes};
 ghost use Rattle.job_laws.specs.Listings.{IsListingOf};
 
 use crate::alike_laws::one_source_or_refusal;
 use crate::answer_laws::sources_are_definite;
+use crate::ready_jobs::jobs_agree;
 use altarica_run::laws::{listings_are_whole, one_job, one_loading};
 use job_inputs::laws::one_list;
 use parser_laws::readings::one_reading;
-use ready_laws::laws::jobs_agree;
 
 /// Whatever a shelf reports: of texts that were read all stages of a job have at most one answer. All
 /// of them are passed, by jobs that stand ready alike, or they refuse in one way.

@@ -15,13 +15,13 @@ ghost use Rattle.hierarchy.specs.Listing.{variables};
 ghost use Rattle.job_inputs.specs.declared.wanting.Wanted.{Wanted};
 ghost use Rattle.replayer.specs.Replays.{IsReplay};
 ghost use Rattle.replayer.specs.Settles.{IsFaultLine};
-ghost use Rattle.replayer.specs.declared.replaying.End.{End};
+ghost use Rattle.replayer.specs.declared.ends.End.{End};
 ghost use Rattle.run_words.specs.declared.jobs.Asked.{Asked};
 ghost use Rattle.run_words.specs.declared.verbs.Verb.TheVariants.{Check, Flat, Replay};
 ghost use Rattle.run_words.specs.declared.verbs.Verb.TheVariants.{Fragment, Equations, Explain};
 ghost use Rattle.run_words.specs.Jobs.{IsAsked};
 ghost use Rattle.table_text.specs.Texts.{IsTableText};
-ghost use Rattle.zdd_families.specs.Sections.{IsCounted, IsMoreThan};
+ghost use Rattle.zdd_nodes.specs.Sections.{IsCounted, IsMoreThan};
 ghost use Rattle.altarica_run.specs.Follows.{Call, Gave, IsKnown, Wrote};
 ghost use Rattle.altarica_run.specs.Nodes.{HasConflict, IsTextOfCuts};
 ghost use Rattle.altarica_run.specs.Says.{Says};
@@ -34,9 +34,9 @@ ghost use Rattle.job_stages.specs.declared.status.Status.TheVariants as status;
 ghost use Rattle.job_laws.specs.Told.{IsStopped, IsAnswered, IsToldAs, IsToldWith};
 
 use crate::one_answer::{one_passing, texts_have_one_answer};
+use crate::ready_jobs::jobs_agree;
 use altarica_run::laws::one_job;
 use altarica_run::nodes::enough_nodes_suffice;
-use ready_laws::laws::jobs_agree;
 
 /// A job over files of which something is told, and which a stage refuses, is answered with that
 /// refusal, its line and its status, or is stopped.

@@ -51,16 +51,16 @@ use Rattle.hierarchy.specs.Units.{Thing}
 use Rattle.mode_trees.specs.declared.forests.Edge.{Edge}
 use Rattle.mode_trees.specs.declared.forests.Forest.{Forest}
 use Rattle.mode_trees.specs.Views.{trees_of, number_in}
-use Rattle.zdd_families.specs.Families.{Family as Sets}
-use Rattle.zdd_families.specs.Sections.{IsCounted, IsMoreThan}
-use Rattle.zdd_families.proofs.Sections.{counted_nil, IsMoreThan-weaker}
-use Rattle.zdd_families.proofs.Halves.{counted_unit}
+use Rattle.zdd_nodes.specs.Families.{Family as Sets}
+use Rattle.zdd_nodes.specs.Sections.{IsCounted, IsMoreThan}
+use Rattle.zdd_nodes.proofs.Sections.{counted_nil, IsMoreThan-weaker}
+use Rattle.zdd_nodes.proofs.Halves.{counted_unit}
 use Rattle.zdd_nodes.specs.Nodes.{Stored, family, IsFamilyNumber as IsNode, IsSoundStore, IsStored}
 use Rattle.zdd_nodes.specs.Room.{SectionsAreStored, EachTakesANode}
 use Rattle.eq_core.specs.Ordered.{IsOrderedTable}
 use Rattle.eq_core.specs.Values.{value_at}
 use Rattle.eq_core.specs.Views.{table_of}
-use Rattle.table_steps.specs.Table.{IsTable}
+use Rattle.eq_build.specs.Table.{IsTable}
 use Rattle.table_laws.specs.GateLaws.{TableIsOrdered, TableAgrees}
 use Rattle.table_laws.proofs.Agreeing.{agrees as table_meant}
 use Rattle.tree_equations.specs.Gives as gives

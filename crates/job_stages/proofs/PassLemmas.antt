@@ -22,8 +22,8 @@ use Rattle.job_inputs.specs.Chains.{cut_of, AnswersCuts}
 use Rattle.job_inputs.specs.CutLists.{CutLine}
 use Rattle.job_inputs.specs.Flat.{AnswersScript, IsBadScript}
 use Rattle.job_inputs.specs.declared.commands.Command.{Command}
-use Rattle.job_inputs.specs.declared.commands.ScriptFault.{ScriptFault}
-use Rattle.job_inputs.specs.declared.commands.ScriptFault.TheVariants as script
+use Rattle.job_inputs.specs.declared.faults.ScriptFault.{ScriptFault}
+use Rattle.job_inputs.specs.declared.faults.ScriptFault.TheVariants as script
 use Rattle.job_inputs.specs.Answers.{AnswersWanted, AnswersObserver}
 use Rattle.job_inputs.specs.Wanting.{NamesNone, NamesObserver}
 use Rattle.job_inputs.specs.declared.wanting.Wanted.{Wanted}

@@ -18,8 +18,8 @@ use Rattle.gts_flatten.specs.Elaborating.{Elaborated}
 use Rattle.gts_flatten.specs.Flat.{IsFlat, naming_of_parts}
 use Rattle.mode_trees.specs.Views.{trees_of, number_in}
 use Rattle.mode_trees.specs.declared.forests.Forest.{Forest}
-use Rattle.table_steps.specs.Laws.{HasTable as SomeTableOf}
-use Rattle.table_steps.specs.Table.{IsTable}
+use Rattle.eq_build.specs.TableLaws.{HasTable as SomeTableOf}
+use Rattle.eq_build.specs.Table.{IsTable}
 use Rattle.tree_equations.specs.Gives.{AtObserver, NeedsTooMany}
 use Rattle.tree_equations.specs.Gives as gives
 use Rattle.tree_equations.specs.declared.fault.EqFault.{EqFault}

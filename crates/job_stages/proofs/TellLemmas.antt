@@ -26,8 +26,8 @@ use Rattle.mode_trees.specs.declared.forests.Forest.{Forest}
 use Rattle.replayer.specs.Replays.{IsReplay}
 use Rattle.replayer.specs.ReplaysInside.{AnswersReplay}
 use Rattle.replayer.specs.ReplaysInside as replays
-use Rattle.replayer.specs.declared.replaying.End.{End}
-use Rattle.replayer.specs.declared.replaying.ReplayFault.{ReplayFault}
+use Rattle.replayer.specs.declared.ends.End.{End}
+use Rattle.replayer.specs.declared.ends.ReplayFault.{ReplayFault}
 use Rattle.run_words.specs.declared.jobs.Asked.{Asked}
 use Rattle.run_words.specs.declared.verbs.Verb.TheVariants.{Check, Flat, Replay, Fragment, Equations}
 use Rattle.job_stages.specs.Passing.{IsGateTable}

@@ -36,8 +36,8 @@ use Rattle.job_inputs.specs.CutLists.{CutLine, CutList}
 use Rattle.job_inputs.specs.Flat.{command_of, AreFirable, IsOfTree}
 use Rattle.job_inputs.specs.Scripts.{BadLine, Commands}
 use Rattle.job_inputs.specs.declared.commands.Command.{Command}
-use Rattle.job_inputs.specs.declared.commands.ScriptFault.{ScriptFault}
-use Rattle.job_inputs.specs.declared.commands.ScriptFault.TheVariants as script
+use Rattle.job_inputs.specs.declared.faults.ScriptFault.{ScriptFault}
+use Rattle.job_inputs.specs.declared.faults.ScriptFault.TheVariants as script
 use Rattle.run_words.specs.declared.jobs.Asked.{Asked}
 use Rattle.run_words.specs.declared.jobs.JobFault.{JobFault}
 use Rattle.run_words.specs.declared.jobs.JobFault.TheVariants as words

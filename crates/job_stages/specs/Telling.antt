@@ -5,9 +5,9 @@ use Rattle.ar_io.specs.Writing.{SinkState, Appended, WroteFront}
 use Rattle.ar_io.specs.declared.outside.SinkFailed.{SinkFailed}
 use Rattle.cut_text.specs.declared.faults.PrintFault.{PrintFault}
 use Rattle.cut_text.specs.declared.faults.PrintFault.TheVariants as print
-use Rattle.replayer.specs.declared.replaying.End.{End}
-use Rattle.replayer.specs.declared.replaying.ReplayFault.{ReplayFault}
-use Rattle.replayer.specs.declared.replaying.ReplayFault.TheVariants as fault
+use Rattle.replayer.specs.declared.ends.End.{End}
+use Rattle.replayer.specs.declared.ends.ReplayFault.{ReplayFault}
+use Rattle.replayer.specs.declared.ends.ReplayFault.TheVariants as fault
 use Rattle.run_words.specs.declared.jobs.Asked.{Asked}
 use Rattle.run_words.specs.declared.verbs.Verb.TheVariants.{Replay}
 use Rattle.job_stages.specs.Tells.{status_at}

@@ -26,8 +26,8 @@ use Rattle.module_text.specs.Texts.{IsModuleText}
 use Rattle.reason_text.specs.Texts.{IsReasonText}
 use Rattle.replayer.specs.Replays.{IsReplay}
 use Rattle.replayer.specs.Settles.{Settles, IsFaultLine}
-use Rattle.replayer.specs.declared.replaying.End.{End}
-use Rattle.replayer.specs.declared.replaying.End.TheVariants as end
+use Rattle.replayer.specs.declared.ends.End.{End}
+use Rattle.replayer.specs.declared.ends.End.TheVariants as end
 use Rattle.run_words.specs.declared.jobs.Asked.{Asked}
 use Rattle.run_words.specs.declared.verbs.Verb.TheVariants.{Check, Flat, Replay, Fragment, Equations, Cuts, Make, Explain, CheckCuts, Modules}
 use Rattle.source_meaning.specs.Systems.{Declarations}
@@ -35,8 +35,8 @@ use Rattle.table_text.specs.Texts.{IsTableText}
 use Rattle.typed_expr.specs.Yields.{Yields}
 use Rattle.typed_expr.specs.declared.expr.Expr.{Expr, out-Expr}
 use Rattle.job_inputs.specs.declared.wanting.Wanted.{Wanted}
-use Rattle.zdd_families.specs.Families.{Family}
-use Rattle.zdd_families.specs.Sections.{IsCounted, IsMoreThan}
+use Rattle.zdd_nodes.specs.Families.{Family}
+use Rattle.zdd_nodes.specs.Sections.{IsCounted, IsMoreThan}
 use Rattle.job_stages.specs.Stages.{Ready, IsTableOf, lists_cuts}
 use Rattle.job_stages.specs.declared.status.Status.{Status}
 use Rattle.job_stages.specs.declared.status.Status.TheVariants.{Done, Fault, Nodes}

@@ -1,45 +1,21 @@
-//! What the analyses of a system stand on: the dropped events, and the trees of modes.
+//! What the analyses of a system stand on: the trees of modes.
 
 ghost use Rattle.std.specs.Prelude.{◌≡◌, map};
 ghost use Rattle.ar_base.specs.NumbersInside.{EventId as EventNumber};
 ghost use Rattle.job_inputs.specs.NamingInside.{AreEventsOf};
-ghost use Rattle.gts_flatten.specs.Elaborating.{Elaborated};
 ghost use Rattle.gts_flatten.specs.Flat.{IsFlat};
-ghost use Rattle.job_stages.specs.Passing.{IsStageOf, IsFlattened, AreDropped, ReadsList, HasForest};
+ghost use Rattle.job_stages.specs.Passing.{IsStageOf, HasForest};
 ghost use Rattle.job_stages.specs.Stages.{Ready, Static};
 
-use crate::elaborating::Flattened;
 use crate::refusals::Refusal;
 use crate::spots::path_of;
 use crate::stops::Stop;
-use ar_base::{EventId, Text};
+use ar_base::EventId;
 use cut_text::forest_laws::forests_of_the_source;
 use gts_core::Gts;
-use job_inputs::read_events;
 use mode_trees::Forest;
 use static_fragment::{FragmentFault, recognise_up_to};
 use std::alloc::Global;
-
-/// The events that the list names, where there is one.
-pub fn dropped_of(
-    alloc: Global,
-    model: &Flattened,
-    list: &Option<Text>,
-) -> Result<Vec<EventId>, Stop>
-    requires { (x : Elaborated) × IsFlattened x model.now }
-    ensures { (x : Elaborated) → IsFlattened x model.now
-        → IsStageOf (λ dropped events. AreDropped model.now.system dropped events.items)
-        (ReadsList list.now x) result }
-{
-    match list {
-        Some(text) => {
-            let bytes = text.as_str().as_bytes();
-            let events = read_events(alloc, &model.tree, &model.system, bytes)?;
-            Ok(events)
-        }
-        None => Ok(Vec::new(alloc)),
-    }
-}
 
 /// The trees of modes of the system without the dropped events, or the rule of the static fragment that
 /// it breaks. Where the cuts of at most so many events are asked for, any number of events may have a live edge.

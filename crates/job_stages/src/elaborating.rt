@@ -8,7 +8,7 @@ ghost use Rattle.hierarchy.specs.ModelsInside.{IsKeptTable};
 ghost use Rattle.job_stages.specs.Elaborates.{Parses, Tables, Systems, Elaborates};
 ghost use Rattle.job_stages.specs.Passing.{IsStageOf, IsFlattened};
 
-use crate::requesting::word_of;
+use crate::jobs::word_of;
 use crate::stops::Stop;
 use ar_base::{RuleFault, Text};
 use ar_parser::parse;

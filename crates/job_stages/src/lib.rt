@@ -19,13 +19,13 @@ mod stops;
 mod tabling;
 mod telling;
 
-pub use analysing::{dropped_of, forest_of};
+pub use analysing::forest_of;
 pub use cutting::{draw, write_conflict, write_cuts, write_nodes};
 pub use elaborating::{Flattened, elaborate};
 pub use jobs::asked_of;
 pub use loading::{Texts, job_texts};
 pub use refusals::{FileKind, Refusal};
-pub use requesting::{Request, chains_of, commands_of, request_of, shown_of};
+pub use requesting::{Request, chains_of, commands_of, dropped_of, request_of, shown_of};
 pub use status::Status;
 pub use stops::Stop;
 pub use tabling::{GateTable, table_of};

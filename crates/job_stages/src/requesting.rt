@@ -1,23 +1,23 @@
 //! What the words, the script, the list and the command ask of a system.
 
-ghost use Rattle.std.specs.Prelude.{◌≡◌, ◌≤◌, ℕ, true, List, Some, IfOk, length, option_map};
+ghost use Rattle.std.specs.Prelude.{◌≡◌, ◌≤◌, ℕ, true, List, Some, IfOk, length};
 ghost use Rattle.ar_base.specs.Counts.{limit_of};
 ghost use Rattle.ar_base.specs.declared.counts.Count.TheVariants.{ScriptBytes};
 ghost use Rattle.gts_flatten.specs.Elaborating.{Elaborated};
 ghost use Rattle.job_inputs.specs.CutLists.{CutLine};
 ghost use Rattle.job_stages.specs.Passing.{IsStageOf, IsFlattened, AreCommands, ReadsScript, AreLines, ReadsCuts, IsShown, ReadsShown};
-ghost use Rattle.job_stages.specs.Passing.{IsThere, IsRequestOf, with_lines, stop_of_cuts};
+ghost use Rattle.job_stages.specs.Passing.{IsThere, IsRequestOf, with_lines, stop_of_cuts, AreDropped, ReadsList, IsWantedIn, ReadsWanted};
 ghost use Rattle.job_stages.specs.Stages.{AsksByWords, has_table, observer_asked};
 
-use crate::analysing::dropped_of;
 use crate::elaborating::Flattened;
 use crate::jobs::makes_model;
 use crate::refusals::Refusal;
 use crate::stops::Stop;
-use crate::tabling::wanted_of;
 use ar_base::{Count, EventId, Text};
 use gts_core::{Chain, Gts};
-use job_inputs::{Command, ScriptFault, Wanted, observer_named, read_cuts, read_script};
+use job_inputs::{
+    Command, ScriptFault, Wanted, observer_named, read_cuts, read_events, read_script, read_wanted,
+};
 use run_words::Asked;
 use std::alloc::Global;
 
@@ -65,14 +65,41 @@ fn observer_of(asked: &Asked) -> &str
     }
 }
 
-/// The word of an option.
-pub fn word_of(text: &Option<Text>) -> Option<&str>
-    ensures { option_map (λ t. t.now) result ≡ text.now }
+/// The events that the list names, where there is one.
+pub fn dropped_of(
+    alloc: Global,
+    model: &Flattened,
+    list: &Option<Text>,
+) -> Result<Vec<EventId>, Stop>
+    requires { (x : Elaborated) × IsFlattened x model.now }
+    ensures { (x : Elaborated) → IsFlattened x model.now
+        → IsStageOf (λ dropped events. AreDropped model.now.system dropped events.items)
+        (ReadsList list.now x) result }
 {
-    match text {
-        Some(text) => Some(text.as_str()),
-        None => None,
+    match list {
+        Some(text) => {
+            let bytes = text.as_str().as_bytes();
+            let events = read_events(alloc, &model.tree, &model.system, bytes)?;
+            Ok(events)
+        }
+        None => Ok(Vec::new(alloc)),
     }
+}
+
+/// The observer of this path, and the value of it that is asked for.
+pub fn wanted_of(
+    alloc: Global,
+    model: &Flattened,
+    observer: &str,
+    value: &Option<Text>,
+) -> Result<Wanted, Stop>
+    requires { (x : Elaborated) × IsFlattened x model.now }
+    ensures { (x : Elaborated) → IsFlattened x model.now
+        → IsStageOf (IsWantedIn model.now.system) (ReadsWanted observer.now value.now x) result }
+{
+    let bytes = observer.as_bytes();
+    let wanted = read_wanted(alloc, &model.tree, &model.system, bytes, value)?;
+    Ok(wanted)
 }
 
 /// The commands of the script, which is let go.

@@ -1,20 +1,18 @@
-//! The observer and the value that a job asks for, and the gate table.
+//! The gate table, for the observer and the value that a job asks for.
 
 ghost use Rattle.std.specs.Prelude.{◌≡◌, ◌<◌, ◌≤◌, Some, length};
-ghost use Rattle.gts_flatten.specs.Elaborating.{Elaborated};
 ghost use Rattle.gts_flatten.specs.Flat.{IsFlat};
-ghost use Rattle.job_stages.specs.Passing.{IsStageOf, IsFlattened, IsWantedIn, HasForest, IsGateTable, ReadsWanted};
+ghost use Rattle.job_stages.specs.Passing.{IsStageOf, HasForest, IsGateTable};
 ghost use Rattle.ar_base.specs.Counts.{limit_of};
 ghost use Rattle.ar_base.specs.declared.counts.Count.TheVariants.{Events};
 ghost use Rattle.cut_text.specs.ForestPrinted.{edge_count};
 ghost use Rattle.job_stages.specs.Stages.{Ready, Tabled};
 
-use crate::elaborating::Flattened;
 use crate::stops::Stop;
 use ar_base::Text;
 use eq_core::Equations;
 use gts_core::Gts;
-use job_inputs::{Wanted, read_wanted};
+use job_inputs::Wanted;
 use mode_trees::Forest;
 use std::alloc::Global;
 use table_text::event_texts;
@@ -28,22 +26,6 @@ pub struct GateTable {
     pub equations: Equations,
     /// The canonical paths of the events.
     pub events: Vec<Text>,
-}
-
-/// The observer of this path, and the value of it that is asked for.
-pub fn wanted_of(
-    alloc: Global,
-    model: &Flattened,
-    observer: &str,
-    value: &Option<Text>,
-) -> Result<Wanted, Stop>
-    requires { (x : Elaborated) × IsFlattened x model.now }
-    ensures { (x : Elaborated) → IsFlattened x model.now
-        → IsStageOf (IsWantedIn model.now.system) (ReadsWanted observer.now value.now x) result }
-{
-    let bytes = observer.as_bytes();
-    let wanted = read_wanted(alloc, &model.tree, &model.system, bytes, value)?;
-    Ok(wanted)
 }
 
 /// The gate table of the system for an observer and its value, by the trees of its modes.

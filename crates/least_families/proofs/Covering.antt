@@ -9,11 +9,11 @@ use Rattle.ar_base.proofs.Standing.{one_none, one_first, one_rest, one_cases}
 use Rattle.ar_base.proofs.Truths.{alike, not_true, true_not}
 use Rattle.ar_firing.specs.Cuts.{HasAtMost}
 use Rattle.ar_firing.specs.CutsInside.{UpTo}
-use Rattle.zdd_families.specs.Families.{Family, holds, within, has, without}
-use Rattle.zdd_families.specs.FamiliesInside.{node, IsAbove}
-use Rattle.zdd_families.proofs.Laws.{list_any-map, list_any-none, every, any_more, within-refl}
-use Rattle.zdd_families.proofs.Members.{holds_law, within_law, has-without}
-use Rattle.zdd_families.proofs.Minimal.{Witness, witness, any_from, within-through}
+use Rattle.zdd_nodes.specs.Families.{Family, holds, within, has, without}
+use Rattle.zdd_nodes.specs.FamiliesInside.{node, IsAbove}
+use Rattle.zdd_nodes.proofs.Laws.{list_any-map, list_any-none, every, any_more, within-refl}
+use Rattle.zdd_nodes.proofs.Members.{holds_law, within_law, has-without}
+use Rattle.zdd_nodes.proofs.Minimal.{Witness, witness, any_from, within-through}
 use Rattle.diagram_steps.proofs.PutIn.{Above, above_each}
 use Rattle.std.specs.Option.{option_map}
 use Rattle.least_families.specs.Least.{covers}

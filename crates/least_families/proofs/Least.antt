@@ -5,11 +5,11 @@ use Rattle.ar_base.specs.Lists.{IsOneOf}
 use Rattle.ar_base.proofs.Standing.{one_first, one_rest}
 use Rattle.ar_base.proofs.Truths.{not_true}
 use Rattle.ar_firing.specs.CutsInside.{UpTo}
-use Rattle.zdd_families.specs.Families.{Family, holds, within, has, without}
-use Rattle.zdd_families.specs.FamiliesInside.{node, IsAbove}
-use Rattle.zdd_families.proofs.Laws.{within-both, within-more, within-not, has_each}
-use Rattle.zdd_families.proofs.Members.{within_law, has-without}
-use Rattle.zdd_families.proofs.Minimal.{within-through}
+use Rattle.zdd_nodes.specs.Families.{Family, holds, within, has, without}
+use Rattle.zdd_nodes.specs.FamiliesInside.{node, IsAbove}
+use Rattle.zdd_nodes.proofs.Laws.{within-both, within-more, within-not, has_each}
+use Rattle.zdd_nodes.proofs.Members.{within_law, has-without}
+use Rattle.zdd_nodes.proofs.Minimal.{within-through}
 use Rattle.diagram_steps.proofs.PutIn.{Above, has_node, has_lower, has_upper, above_each, each_above}
 use Rattle.least_families.specs.Least.{covers, AreIncomparable, AreLeast, AreLeastUpTo}
 use Rattle.least_families.proofs.Covering.{covers_from, covers_self, covered, covers_more, covers_node, covers_without, over, over_within, over_above, covers_over}

@@ -3,9 +3,9 @@ use Rattle.std.proofs.Common.{◌≡◌, ◌≢◌, ◌<◌, ◌≤◌, ◌+◌,
 use Rattle.ar_base.specs.Lists.{IsOneOf}
 use Rattle.ar_firing.specs.Cuts.{HasAtMost}
 use Rattle.ar_firing.specs.CutsInside.{UpTo}
-use Rattle.zdd_families.specs.Families.{Family, has, same, within, without}
-use Rattle.zdd_families.specs.FamiliesInside.{node, IsAbove}
-use Rattle.zdd_families.proofs.Laws.{same-refl, IsAbove-without}
+use Rattle.zdd_nodes.specs.Families.{Family, has, same, within, without}
+use Rattle.zdd_nodes.specs.FamiliesInside.{node, IsAbove}
+use Rattle.zdd_nodes.proofs.Laws.{same-refl, IsAbove-without}
 use Rattle.zdd_nodes.specs.Nodes.{NodeId, Stored, at, family, IsFamilyNumber, IsNode, IsSoundStore}
 use Rattle.diagram_steps.specs.Putting.{Extends}
 use Rattle.diagram_steps.proofs.Growing.{extends_then, kept, still}

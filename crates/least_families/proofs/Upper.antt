@@ -4,11 +4,11 @@ use Rattle.std.proofs.lemmas.Bool.{or_cases}
 use Rattle.ar_base.specs.Lists.{IsOneOf}
 use Rattle.ar_base.proofs.Standing.{one_first}
 use Rattle.ar_firing.specs.CutsInside.{UpTo}
-use Rattle.zdd_families.specs.Families.{Family, holds, within, has, without}
-use Rattle.zdd_families.specs.FamiliesInside.{node, IsAbove}
-use Rattle.zdd_families.proofs.Laws.{IsAbove-without, within-more, holds-above}
-use Rattle.zdd_families.proofs.Members.{within_law}
-use Rattle.zdd_families.proofs.Minimal.{within-through}
+use Rattle.zdd_nodes.specs.Families.{Family, holds, within, has, without}
+use Rattle.zdd_nodes.specs.FamiliesInside.{node, IsAbove}
+use Rattle.zdd_nodes.proofs.Laws.{IsAbove-without, within-more, holds-above}
+use Rattle.zdd_nodes.proofs.Members.{within_law}
+use Rattle.zdd_nodes.proofs.Minimal.{within-through}
 use Rattle.diagram_steps.proofs.PutIn.{Above, has_lower, has_upper, above_each}
 use Rattle.least_families.specs.Least.{covers, AreIncomparable, AreLeast, AreLeastUpTo}
 use Rattle.least_families.proofs.Covering.{covers_from, covers_self, covered, covers_more, covers_node, over, over_within, covers_over, fewer, up_to_part, up_to_over, up_to_with, up_to_more, up_to_none}

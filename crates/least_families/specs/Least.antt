@@ -2,7 +2,7 @@
 use Rattle.std.specs.Prelude.{◌≡◌, ℕ, Bool, true, List, Option}
 use Rattle.std.specs.List.{list_any}
 use Rattle.ar_firing.specs.CutsInside.{UpTo}
-use Rattle.zdd_families.specs.Families.{Family, within, has}
+use Rattle.zdd_nodes.specs.Families.{Family, within, has}
 
 -- whether a set of the family lies within this set
 abbrev pub covers : Family → List ℕ → Bool

@@ -8,9 +8,9 @@ use Rattle.std.proofs.lemmas.Option.{get_or_from_slice_get}
 use Rattle.ar_base.specs.Lists.{Stands, IsOneOf}
 use Rattle.ar_base.specs.Sets.{Ascends}
 use Rattle.ar_base.proofs.Standing.{stands_get, stands_within, stands_map, stands_one, stands_map, stands_map_back, one_here, one_first, one_rest, one_cases, one_contains, contains_one}
-use Rattle.zdd_families.specs.Families.{holds}
-use Rattle.zdd_families.proofs.Ascending.{IsAscending, ascends_from}
-use Rattle.zdd_families.proofs.Members.{holds_law}
+use Rattle.zdd_nodes.specs.Families.{holds}
+use Rattle.zdd_nodes.proofs.Ascending.{IsAscending, ascends_from}
+use Rattle.zdd_nodes.proofs.Members.{holds_law}
 use Rattle.min_cuts.specs.Kept.{events_in_order, AreEventPlaces, IsInTheOrder}
 use Rattle.ar_firing.proofs.OneListing.{ascending_same}
 

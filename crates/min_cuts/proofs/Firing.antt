@@ -12,8 +12,8 @@ use Rattle.domains.specs.declared.Value.{Value}
 use Rattle.ar_meaning.specs.Runs.{Label}
 use Rattle.ar_firing.specs.Forest.{Row, ModeTree}
 use Rattle.ar_firing.specs.Trees.{AreTrees}
-use Rattle.zdd_families.specs.Families.{Family, holds, has}
-use Rattle.zdd_families.proofs.Members.{holds_law}
+use Rattle.zdd_nodes.specs.Families.{Family, holds, has}
+use Rattle.zdd_nodes.proofs.Members.{holds_law}
 use Rattle.firable_families.specs.FirableInside.{LeadsToMode, IsFirableOf}
 use Rattle.firable_families.specs.FirableInside.LeadsToMode.{root, edge}
 use Rattle.firable_families.proofs.Listing.{stands_has}

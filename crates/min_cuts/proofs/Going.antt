@@ -11,9 +11,9 @@ use Rattle.ar_base.proofs.Standing.{one_here}
 use Rattle.ar_base.specs.NumbersInside.{EventId}
 use Rattle.ar_firing.specs.Forest.{ModeTree}
 use Rattle.ar_firing.specs.Trees.{AreTrees}
-use Rattle.zdd_families.specs.Families.{Family, has}
-use Rattle.zdd_families.specs.Behind.{behind_events}
-use Rattle.zdd_families.proofs.Behind.{behind_none}
+use Rattle.zdd_nodes.specs.Families.{Family, has}
+use Rattle.zdd_nodes.specs.Behind.{behind_events}
+use Rattle.zdd_nodes.proofs.Behind.{behind_none}
 use Rattle.zdd_nodes.specs.Nodes.{NodeId, Stored, family, IsFamilyNumber, IsSoundStore}
 use Rattle.firable_families.specs.FirableInside.{IsFirableOf}
 use Rattle.firable_families.proofs.Listing.{stands_has}

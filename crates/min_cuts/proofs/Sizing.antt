@@ -2,8 +2,8 @@
 use Rattle.std.proofs.Common.{◌≡◌, ◌≢◌, ◌≤◌, ◌^◌, ◌-◌, ⊎_elim, ℕ, suc, ◌+◌, max, min, List, [], ◌∷◌, ◌++◌, map, length, get_or, refl, sym, ap, ◌∙◌, arith, length-append}
 use Rattle.std.proofs.lemmas.List.{length-map}
 use Rattle.ar_base.proofs.Standing.{stands_get}
-use Rattle.zdd_families.specs.Families.{Family}
-use Rattle.zdd_families.specs.FamiliesInside.{node}
+use Rattle.zdd_nodes.specs.Families.{Family}
+use Rattle.zdd_nodes.specs.FamiliesInside.{node}
 use Rattle.zdd_nodes.specs.Nodes.{Stored, family, IsNode}
 use Rattle.zdd_nodes.proofs.Lists.{slice_get-push_cases}
 use Rattle.min_cuts.specs.Sizes.{largest, count}

@@ -2,9 +2,9 @@
 use Rattle.std.proofs.Common.{◌≡◌, ◌≢◌, ⊎_elim, ◌<◌, ℕ, suc, ◌+◌, max, List, [], ◌∷◌, ◌++◌, map, length, refl, sym, ap, ap₂, ◌∙◌, subst, arith, append_assoc, append-nil, length-append}
 use Rattle.std.proofs.lemmas.List.{map-append}
 use Rattle.ar_base.proofs.Standing.{stands_left, stands_next}
-use Rattle.zdd_families.specs.Families.{Family}
-use Rattle.zdd_families.specs.Behind.{behind_events}
-use Rattle.zdd_families.proofs.Behind.{behind_node}
+use Rattle.zdd_nodes.specs.Families.{Family}
+use Rattle.zdd_nodes.specs.Behind.{behind_events}
+use Rattle.zdd_nodes.proofs.Behind.{behind_node}
 use Rattle.zdd_nodes.specs.Nodes.{Stored, family, IsNode}
 use Rattle.zdd_nodes.proofs.Lists.{slice_get-push_cases}
 use Rattle.min_cuts.specs.Sizes.{largest}

@@ -5,8 +5,8 @@ use Rattle.ar_base.specs.Lists.{Stands, IsOneOf}
 use Rattle.ar_base.specs.Sets.{Ascends}
 use Rattle.ar_base.specs.NumbersInside.{EventId}
 use Rattle.ar_firing.specs.Forest.{ModeTree}
-use Rattle.zdd_families.specs.Families.{Family, holds}
-use Rattle.zdd_families.specs.Behind.{behind_events}
+use Rattle.zdd_nodes.specs.Families.{Family, holds}
+use Rattle.zdd_nodes.specs.Behind.{behind_events}
 use Rattle.zdd_nodes.specs.Nodes.{Stored, family, IsFamilyNumber}
 use Rattle.min_cuts.specs.Sizes.{largest}
 use Rattle.min_cuts.specs.declared.steps.Step.{Step}

@@ -3,7 +3,7 @@ use Rattle.std.specs.Prelude.{◌≡◌, ℕ, suc, List, [], ◌∷◌, ◌++◌
 use Rattle.ar_base.specs.Lists.{Along}
 use Rattle.ar_meaning.specs.Runs.{Label}
 use Rattle.ar_firing.specs.Forest.{ModeTree}
-use Rattle.zdd_families.specs.Families.{Family}
+use Rattle.zdd_nodes.specs.Families.{Family}
 use Rattle.firable_families.specs.FirableInside.{IsFirableOf}
 
 -- the labels of the paths of these trees, the first of which stands at place k: tree by tree, each path from its root

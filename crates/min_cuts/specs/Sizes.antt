@@ -1,6 +1,6 @@
 -- How large a family's sets are.
 use Rattle.std.specs.Prelude.{ℕ, ◌-◌, ◌^◌, max, min, [], ◌∷◌, length}
-use Rattle.zdd_families.specs.Families.{Family}
+use Rattle.zdd_nodes.specs.Families.{Family}
 
 -- how many events the largest set has, 0 where there is no set
 abbrev pub largest : Family → ℕ

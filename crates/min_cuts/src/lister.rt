@@ -4,7 +4,7 @@ ghost use Rattle.std.specs.Prelude.{◌≡◌, ℕ, List, [], IfOk, IsOk, true};
 ghost use Rattle.std.specs.Borrow.{sem};
 ghost use Rattle.ar_firing.specs.Trees.{AreTrees};
 ghost use Rattle.mode_trees.specs.Views.{trees_of};
-ghost use Rattle.zdd_families.specs.Families.{has};
+ghost use Rattle.zdd_nodes.specs.Families.{has};
 ghost use Rattle.zdd_nodes.specs.Nodes.{family as family_of, IsFamilyNumber};
 ghost use Rattle.firable_families.specs.FirableInside.{IsFirableOf};
 ghost use Rattle.min_cuts.specs.Lines.{AreInFiringOrder};

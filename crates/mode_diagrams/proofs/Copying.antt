@@ -3,9 +3,9 @@ use Rattle.std.proofs.Common.{◌≡◌, ◌⊎◌, ⊎_elim, inl, inr, ℕ, zer
 use Rattle.ar_base.specs.Lists.{Stands}
 use Rattle.std.proofs.lemmas.List.{length-replicate}
 use Rattle.ar_base.proofs.Standing.{stands_get}
-use Rattle.zdd_families.specs.Families.{Family}
-use Rattle.zdd_families.specs.Sections.{IsCounted}
-use Rattle.zdd_families.proofs.Sections.{IsCounted-lower, IsCounted-upper}
+use Rattle.zdd_nodes.specs.Families.{Family}
+use Rattle.zdd_nodes.specs.Sections.{IsCounted}
+use Rattle.zdd_nodes.proofs.Sections.{IsCounted-lower, IsCounted-upper}
 use Rattle.zdd_nodes.specs.Nodes.{NodeId, Stored, family, IsFamilyNumber, IsNode, Grows, Draws}
 use Rattle.zdd_nodes.specs.declared.NodeFault.{NodeFault}
 use Rattle.zdd_nodes.proofs.Growing.{kept, still, Draws-weaker, counted_made}

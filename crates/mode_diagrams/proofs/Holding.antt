@@ -4,7 +4,7 @@ use Rattle.std.proofs.Math.Bool.{and-true}
 use Rattle.std.proofs.lemmas.Bool.{and_parts}
 use Rattle.std.specs.Map.{lookup}
 use Rattle.ar_base.proofs.Comparing.{id_from}
-use Rattle.zdd_families.specs.Families.{Family}
+use Rattle.zdd_nodes.specs.Families.{Family}
 use Rattle.zdd_nodes.specs.Nodes.{NodeId, Stored, family, Grows}
 use Rattle.zdd_nodes.specs.declared.NodeFault.{NodeFault}
 use Rattle.zdd_nodes.specs.declared.NodeFault.TheVariants.{Memory as OutOfMemory}

@@ -6,7 +6,7 @@ use Rattle.ar_base.specs.Lists.{Stands, IsOneOf}
 use Rattle.ar_base.specs.NumbersInside.{EventId}
 use Rattle.ar_base.proofs.Standing.{stands_one, stands_within, one_none, one_cases, one_split, one_left, one_right, one_first}
 use Rattle.eq_core.specs.Gates.{Operand, EventIs, Gate}
-use Rattle.zdd_families.proofs.Laws.{eqb-refl}
+use Rattle.zdd_nodes.proofs.Laws.{eqb-refl}
 use Rattle.diagram_steps.specs.declared.trees.NumberedEdge.{NumberedEdge}
 use Rattle.diagram_steps.specs.declared.trees.NumberedTree.{NumberedTree}
 use Rattle.diagram_steps.specs.Trees.{edges_of}

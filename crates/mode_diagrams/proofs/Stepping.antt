@@ -5,9 +5,9 @@ use Rattle.ar_base.specs.Lists.{Stands, IsOneOf}
 use Rattle.ar_base.specs.Sets.{Within}
 use Rattle.ar_base.proofs.Comparing.{side, lt_or_same}
 use Rattle.ar_base.proofs.Standing.{stands_one, stands_within, stands_some, stands_none, one_none, one_cases, one_first, one_rest, one_split, one_left, one_right}
-use Rattle.zdd_families.specs.Families.{Family, has}
-use Rattle.zdd_families.specs.FamiliesInside.{union}
-use Rattle.zdd_families.proofs.Members.{has-union}
+use Rattle.zdd_nodes.specs.Families.{Family, has}
+use Rattle.zdd_nodes.specs.FamiliesInside.{union}
+use Rattle.zdd_nodes.proofs.Members.{has-union}
 use Rattle.zdd_nodes.specs.Nodes as nodes
 use Rattle.mode_nodes.specs.Diagrams.{mode_of, value, IsDiagramNumber, IsFrom, IsSoundDiagramStore}
 use Rattle.mode_nodes.specs.Cuts.{IsLeftAt}

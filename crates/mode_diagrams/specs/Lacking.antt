@@ -10,8 +10,8 @@ use Rattle.mode_nodes.specs.declared.store.DiagramFault.TheVariants as fault
 use Rattle.diagram_steps.specs.declared.trees.NumberedEdge.{NumberedEdge}
 use Rattle.diagram_steps.specs.declared.trees.NumberedTree.{NumberedTree}
 use Rattle.diagram_steps.specs.Trees.{TreeHasEvent}
-use Rattle.mode_diagrams.specs.declared.drawing.Undrawn.{Undrawn}
-use Rattle.mode_diagrams.specs.declared.drawing.Undrawn.TheVariants as undrawn
+use Rattle.mode_diagrams.specs.declared.undrawn.Undrawn.{Undrawn}
+use Rattle.mode_diagrams.specs.declared.undrawn.Undrawn.TheVariants as undrawn
 
 -- whether two events are one
 abbrev pub same_event : EventId → EventId → Bool

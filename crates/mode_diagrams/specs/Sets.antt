@@ -2,7 +2,7 @@
 use Rattle.std.specs.Prelude.{◌≡◌, ◌↔◌, ◌⊎◌, ◌≤◌, ◌<◌, ℕ, true, List, length}
 use Rattle.ar_base.specs.Lists.{Stands, IsOneOf}
 use Rattle.ar_base.specs.Sets.{Within}
-use Rattle.zdd_families.specs.Families.{Family, has}
+use Rattle.zdd_nodes.specs.Families.{Family, has}
 use Rattle.mode_nodes.specs.Diagrams.{mode_of, value}
 use Rattle.mode_nodes.specs.Bounds.{Bounded, total_cost}
 use Rattle.diagram_steps.specs.declared.trees.NumberedEdge.{NumberedEdge}

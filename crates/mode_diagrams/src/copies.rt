@@ -1,7 +1,7 @@
 //! A family of one store in another.
 
 ghost use Rattle.std.specs.Prelude.{◌≡◌, ◌+◌, IfOk, length, replicate};
-ghost use Rattle.zdd_families.specs.Sections.{IsCounted};
+ghost use Rattle.zdd_nodes.specs.Sections.{IsCounted};
 ghost use Rattle.zdd_nodes.specs.Nodes.{family, IsFamilyNumber, IsSoundStore, Draws};
 ghost use Rattle.mode_diagrams.specs.Kept.{AreCopied};
 

@@ -13,66 +13,11 @@ ghost use Rattle.mode_diagrams.specs.Sets.{AreSmall};
 
 use crate::events::places;
 use crate::gates::{gate_diagram, operand_diagram};
-use ar_base::Memory;
+use crate::undrawn::Undrawn;
 use diagram_steps::NumberedTree;
 use eq_core::{Gate, Operand};
-use mode_nodes::{DiagramFault, DiagramId, Diagrams};
-use std::alloc::{AllocFailed, Global};
-use zdd_nodes::NodeFault;
-
-/// Why an operand got no diagram, or a diagram no family.
-#[derive(Clone, Copy)]
-pub enum Undrawn {
-    /// The diagrams have their limit of nodes, or the families that are made on the way; or no tree has the event.
-    Beyond,
-    /// Memory was refused.
-    Memory,
-}
-
-impl From<DiagramFault> for Undrawn {
-    ghost use Rattle.std.specs.Prelude.{◌≡◌};
-    ghost use Rattle.mode_diagrams.specs.Lacking.{undrawn_of};
-
-    ghost from_gives = { λ fault e. e ≡ undrawn_of fault };
-
-    fn from(fault: DiagramFault) -> Self {
-        match fault {
-            DiagramFault::Full => Undrawn::Beyond,
-            DiagramFault::Memory => Undrawn::Memory,
-        }
-    }
-}
-
-impl From<NodeFault> for Undrawn {
-    fn from(fault: NodeFault) -> Self {
-        match fault {
-            NodeFault::Full => Undrawn::Beyond,
-            NodeFault::Memory => Undrawn::Memory,
-        }
-    }
-}
-
-impl From<Memory> for Undrawn {
-    ghost use Rattle.std.specs.Prelude.{◌≡◌};
-    ghost use Rattle.mode_diagrams.specs.declared.drawing.Undrawn.TheVariants as undrawn;
-
-    ghost from_gives = { λ _ e. e ≡ undrawn.Memory };
-
-    fn from(_memory: Memory) -> Self {
-        Undrawn::Memory
-    }
-}
-
-impl<T: Drop> From<AllocFailed<T>> for Undrawn {
-    ghost use Rattle.std.specs.Prelude.{◌≡◌};
-    ghost use Rattle.mode_diagrams.specs.declared.drawing.Undrawn.TheVariants as undrawn;
-
-    ghost from_gives = { λ _ e. e ≡ undrawn.Memory };
-
-    fn from(_failed: AllocFailed<T>) -> Self {
-        Undrawn::Memory
-    }
-}
+use mode_nodes::{DiagramId, Diagrams};
+use std::alloc::Global;
 
 /// The diagram of an operand, right where the modes cost no more than is enough. Of the gates those with a mark are drawn, each once: the operand's own and those that a
 /// marked gate's operands name have to be marked. Beyond comes where the store is full, or where no tree has an event that

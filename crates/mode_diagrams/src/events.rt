@@ -8,7 +8,7 @@ ghost use Rattle.mode_diagrams.specs.Agreement.{HasOperandValues, AreToldModes};
 ghost use Rattle.mode_diagrams.specs.Lacking.{HavePlacedEvents, PutsTree, HasNoTree, IsFull};
 ghost use Rattle.mode_diagrams.specs.Sets.{AreSmall};
 
-use crate::drawing::Undrawn;
+use crate::undrawn::Undrawn;
 use ar_base::{EventId, Memory};
 use diagram_steps::{NumberedEdge, NumberedTree};
 use mode_nodes::{DiagramId, Diagrams};

@@ -13,8 +13,8 @@ ghost use Rattle.mode_diagrams.specs.Agreement.{HasOperandValues, AgreesJoint, I
 ghost use Rattle.mode_diagrams.specs.Lacking.{HavePlacedEvents, IsFull, Lacks, LacksOne};
 ghost use Rattle.mode_diagrams.specs.Sets.{AreSmall};
 
-use crate::drawing::Undrawn;
 use crate::events::{TreePlaces, event_diagram};
+use crate::undrawn::Undrawn;
 use diagram_steps::{NumberedTree, joined, signed};
 use eq_core::{Gate, Joint, Operand};
 use mode_nodes::{DiagramId, Diagrams};

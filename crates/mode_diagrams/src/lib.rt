@@ -16,10 +16,12 @@ mod held;
 mod listing;
 mod numbering;
 mod paths;
+mod undrawn;
 
 pub use copies::copied;
 pub use costs::diagrams_up_to;
-pub use drawing::{Undrawn, draw};
+pub use drawing::draw;
 pub use firable_sets::firable_by_modes;
 pub use listing::{Listed, list_sets};
 pub use numbering::numbered;
+pub use undrawn::Undrawn;

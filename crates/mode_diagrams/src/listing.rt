@@ -8,9 +8,9 @@ ghost use Rattle.mode_diagrams.specs.Trees.{AreNumbered};
 ghost use Rattle.mode_diagrams.specs.Sets.{AreSmall, HasSets, IsTrueFrom};
 ghost use Rattle.mode_diagrams.specs.Kept.{AreHeld, IsTrueIn};
 
-use crate::drawing::Undrawn;
 use crate::held::{Held, State};
 use crate::paths::with_path;
+use crate::undrawn::Undrawn;
 use ar_base::MOST_NODES;
 use diagram_steps::NumberedTree;
 use mode_nodes::{DiagramId, Diagrams};

@@ -6,7 +6,7 @@ use Rattle.ar_base.proofs.Standing.{stands_one, stands_within, stands_none, stan
 use Rattle.ar_base.proofs.Items.{single as last_place}
 use Rattle.domains.specs.declared.Value.{Value}
 use Rattle.gts_core.specs.declared.system.GtsParts.{GtsParts}
-use Rattle.mode_edges.specs.Adding.{AddsEdge}
+use Rattle.mode_search.specs.EdgeAdding.{AddsEdge}
 use Rattle.mode_search.specs.declared.moves.Move.{Move}
 use Rattle.mode_search.specs.declared.moves.Move.TheVariants.{Still, To, Wrong}
 use Rattle.mode_search.specs.declared.kept.KeptWay.{KeptWay}

@@ -10,3 +10,4 @@ pub mod Reaches
 pub mod Rows
 pub mod Sharing
 pub mod Wide
+pub mod EdgeAdding

@@ -13,7 +13,7 @@ use Rattle.ar_firing.specs.Fragment.{At}
 use Rattle.gts_core.specs.declared.system.Variable.{Variable}
 use Rattle.gts_core.specs.declared.system.Assign.{Assign}
 use Rattle.gts_core.specs.declared.system.GtsParts.{GtsParts}
-use Rattle.mode_edges.specs.Adding.{AddsEdge}
+use Rattle.mode_search.specs.EdgeAdding.{AddsEdge}
 use Rattle.mode_search.specs.Modes.{transition_of}
 use Rattle.mode_search.specs.Moves.{IsMove}
 use Rattle.mode_search.specs.declared.moves.Move.{Move}

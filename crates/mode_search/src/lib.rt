@@ -2,6 +2,7 @@
 //! the edges of its ways; where these break a rule; and the first flow or observer with too many possible values.
 #![tactic(auto)]
 
+mod edges;
 mod events;
 mod kept;
 mod listing;

@@ -5,11 +5,11 @@ ghost use Rattle.domains.specs.Domains.{IsDomain, values_of};
 ghost use Rattle.gts_core.specs.Sound.{IsSound};
 ghost use Rattle.mode_search.specs.Reached.{AreWaysOfParts, AreDifferentWays, IsMoveOf, IsReach, Expands, AddsMove};
 
+use crate::edges::add_edge;
 use crate::{KeptWay, Move, move_at};
 use ar_base::{EventId, Memory, VarId, WayId};
 use domains::{Domain, Value};
 use gts_core::{GtsParts, WayBody};
-use mode_edges::add_edge;
 use mode_trees::Edge;
 use std::alloc::Global;
 

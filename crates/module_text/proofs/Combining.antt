@@ -14,9 +14,9 @@ use Rattle.hierarchy.specs.Units.{UnitLevel, UnitPath, Thing}
 use Rattle.hierarchy.proofs.Apart.{units_different}
 use Rattle.hierarchy.proofs.Places.{IsUnder}
 use Rattle.gts_flatten.specs.Elaborating.{Elaborated}
-use Rattle.zdd_families.specs.Families.{Family}
-use Rattle.zdd_families.specs.FamiliesInside.{IsFamily, order}
-use Rattle.zdd_families.proofs.Members.{order_law}
+use Rattle.zdd_nodes.specs.Families.{Family}
+use Rattle.zdd_nodes.specs.FamiliesInside.{IsFamily, order}
+use Rattle.zdd_nodes.proofs.Members.{order_law}
 use Rattle.gate_modules.specs.Choices.{StandFor}
 use Rattle.gate_modules.specs.Modules.{lies, Covers}
 use Rattle.gate_modules.specs.ModulesInside.{AreRanges, HasEvents}

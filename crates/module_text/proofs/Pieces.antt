@@ -10,7 +10,7 @@ use Rattle.ar_base.specs.Texts.{line, text_at}
 use Rattle.gts_core.specs.declared.system.GtsParts.{GtsParts}
 use Rattle.mode_trees.specs.declared.forests.Edge.{Edge}
 use Rattle.mode_trees.specs.declared.forests.ModeTree.{ModeTree}
-use Rattle.zdd_families.specs.Families.{holds}
+use Rattle.zdd_nodes.specs.Families.{holds}
 use Rattle.ar_base.specs.NumbersInside.{UnitId}
 use Rattle.ar_base.proofs.Standing.{one_none, one_first, one_rest, one_cases, one_split, one_here, stands_map, stands_map_back, stands_within, along_back}
 use Rattle.ar_base.proofs.Lines.{line_after}

@@ -23,9 +23,9 @@ use Rattle.flow_blocks.specs.Bits.{row_of}
 use Rattle.flow_blocks.proofs.RowLemmas.{row_set_same, row_set_other}
 use Rattle.gate_modules.specs.ShortenedInside.{event_numbers}
 use Rattle.mode_trees.specs.declared.forests.Edge.{Edge}
-use Rattle.zdd_families.specs.Families.{holds}
-use Rattle.zdd_families.proofs.Ascending.{IsAscending, ascends_from}
-use Rattle.zdd_families.proofs.Members.{holds_law}
+use Rattle.zdd_nodes.specs.Families.{holds}
+use Rattle.zdd_nodes.proofs.Ascending.{IsAscending, ascends_from}
+use Rattle.zdd_nodes.proofs.Members.{holds_law}
 use Rattle.mode_trees.specs.declared.forests.ModeTree.{ModeTree}
 use Rattle.cut_text.specs.Printed.{forest_edges}
 use Rattle.module_text.specs.Arranged.{way_pieces, pieces_of}

@@ -36,7 +36,7 @@ use Rattle.mode_trees.specs.declared.forests.Forest.{Forest}
 use Rattle.mode_trees.specs.declared.forests.ModeTree.{ModeTree}
 use Rattle.text_pieces.specs.WayLabels.{way_label_found, numbered_label, way_label}
 use Rattle.text_pieces.proofs.Ways.{label_alike}
-use Rattle.zdd_families.specs.Families.{holds}
+use Rattle.zdd_nodes.specs.Families.{holds}
 use Rattle.cut_text.specs.Printed.{forest_edges, things_of, IsForestOf}
 use Rattle.cut_text.specs.Texts.{braced, labels_text}
 use Rattle.gate_modules.specs.Shortened.{UnitSets, ShortForm}

@@ -7,7 +7,7 @@ use Rattle.ar_base.specs.Texts.{line, text_at}
 use Rattle.gts_core.specs.declared.system.GtsParts.{GtsParts}
 use Rattle.mode_trees.specs.declared.forests.Edge.{Edge}
 use Rattle.text_pieces.specs.WayLabels.{way_label}
-use Rattle.zdd_families.specs.Families.{holds}
+use Rattle.zdd_nodes.specs.Families.{holds}
 use Rattle.gate_modules.specs.ShortenedInside.{event_numbers}
 use Rattle.gate_modules.specs.declared.ranges.EventSet.{EventSet}
 use Rattle.gate_modules.specs.declared.ranges.Module.{Module}

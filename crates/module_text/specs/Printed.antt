@@ -6,7 +6,7 @@ use Rattle.gts_core.specs.declared.system.GtsParts.{GtsParts}
 use Rattle.mode_trees.specs.declared.forests.Edge.{Edge}
 use Rattle.mode_trees.specs.declared.forests.Forest.{Forest}
 use Rattle.text_pieces.specs.WayLabels.{way_label}
-use Rattle.zdd_families.specs.Families.{holds}
+use Rattle.zdd_nodes.specs.Families.{holds}
 use Rattle.cut_text.specs.Printed.{forest_edges}
 use Rattle.cut_text.specs.Texts.{braced}
 use Rattle.gate_modules.specs.Shortened.{UnitSets, ShortForm}

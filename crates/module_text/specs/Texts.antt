@@ -10,7 +10,7 @@ use Rattle.ar_meaning.specs.TraceText.{Naming, label_text}
 use Rattle.ar_firing.specs.Cuts.{Cut}
 use Rattle.ar_firing.specs.Forest.{Row, ModeTree, IsForest}
 use Rattle.ar_firing.specs.Listed.{AreListed}
-use Rattle.zdd_families.specs.Families.{holds}
+use Rattle.zdd_nodes.specs.Families.{holds}
 use Rattle.hierarchy.specs.Paths.{unit_path}
 use Rattle.hierarchy.specs.Units.{Thing}
 use Rattle.gts_flatten.specs.Elaborating.{Elaborated}

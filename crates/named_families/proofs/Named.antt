@@ -6,9 +6,9 @@ use Rattle.ar_base.specs.Lists.{Stands, IsOneOf}
 use Rattle.ar_base.specs.NumbersInside.{EventId}
 use Rattle.ar_base.proofs.Standing.{stands_none, stands_get, stands_left, stands_right, one_left, one_right, one_split}
 use Rattle.ar_base.proofs.Items.{last_cases}
-use Rattle.zdd_families.specs.Families.{Family, has}
-use Rattle.zdd_families.specs.FamiliesInside.{union}
-use Rattle.zdd_families.proofs.Members.{has-union}
+use Rattle.zdd_nodes.specs.Families.{Family, has}
+use Rattle.zdd_nodes.specs.FamiliesInside.{union}
+use Rattle.zdd_nodes.proofs.Members.{has-union}
 use Rattle.zdd_nodes.specs.Nodes.{NodeId, Stored, family, IsFamilyNumber}
 use Rattle.diagram_steps.specs.Putting.{Extends}
 use Rattle.diagram_steps.proofs.Growing as g

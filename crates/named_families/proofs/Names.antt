@@ -4,8 +4,8 @@ use Rattle.std.proofs.lemmas.Bool.{or_cases, or_right}
 use Rattle.ar_base.specs.Lists.{Stands, IsOneOf}
 use Rattle.ar_base.specs.NumbersInside.{EventId}
 use Rattle.ar_base.proofs.Standing.{one_none, one_cases, one_first, one_rest}
-use Rattle.zdd_families.specs.Families.{holds, has}
-use Rattle.zdd_families.proofs.Members.{holds_law}
+use Rattle.zdd_nodes.specs.Families.{holds, has}
+use Rattle.zdd_nodes.proofs.Members.{holds_law}
 use Rattle.zdd_nodes.specs.Nodes.{Stored, family}
 use Rattle.diagram_steps.specs.Putting.{put_in}
 use Rattle.named_families.specs.Names.{IsNamedBy, AreNamed}

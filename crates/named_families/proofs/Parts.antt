@@ -4,8 +4,8 @@ use Rattle.ar_base.specs.Lists.{Stands, IsOneOf}
 use Rattle.ar_base.specs.NumbersInside.{EventId}
 use Rattle.ar_base.proofs.Standing.{one_none, one_left, one_first, one_rest}
 use Rattle.ar_base.proofs.Items.{one_last, last_cases}
-use Rattle.zdd_families.specs.Families.{Family, has}
-use Rattle.zdd_families.proofs.Laws.{same-refl}
+use Rattle.zdd_nodes.specs.Families.{Family, has}
+use Rattle.zdd_nodes.proofs.Laws.{same-refl}
 use Rattle.zdd_nodes.specs.Nodes.{NodeId, Stored, family, IsNode, at}
 use Rattle.diagram_steps.specs.Putting.{Extends, put_in, HasWith}
 use Rattle.diagram_steps.proofs.Growing as g

@@ -2,7 +2,7 @@
 use Rattle.std.specs.Prelude.{◌≡◌, ◌⊎◌, ℕ, ◌+◌, true, List, length}
 use Rattle.ar_base.specs.Lists.{Stands, IsOneOf}
 use Rattle.ar_base.specs.NumbersInside.{EventId}
-use Rattle.zdd_families.specs.Families.{Family, has}
+use Rattle.zdd_nodes.specs.Families.{Family, has}
 use Rattle.zdd_nodes.specs.Nodes.{NodeId, Stored, family, IsFamilyNumber}
 use Rattle.named_families.specs.Names.{AreNamed}
 

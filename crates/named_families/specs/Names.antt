@@ -2,7 +2,7 @@
 use Rattle.std.specs.Prelude.{◌≡◌, ℕ, true, List}
 use Rattle.ar_base.specs.Lists.{Stands, IsOneOf}
 use Rattle.ar_base.specs.NumbersInside.{EventId}
-use Rattle.zdd_families.specs.Families.{Family, has}
+use Rattle.zdd_nodes.specs.Families.{Family, has}
 
 -- the new set has exactly the places of the old set's events
 pub record IsNamedBy (names : List EventId) (new old : List ℕ) : Type 0 where

@@ -7,10 +7,9 @@ ghost use Rattle.named_families.specs.WithEvent.{AreWithEvent};
 
 use ar_base::EventId;
 use diagram_steps::with_event;
-use event_bounds::below;
 use std::alloc::Global;
 use std::collections::HashMap;
-use zdd_nodes::{NodeFault, NodeId};
+use zdd_nodes::{NodeFault, NodeId, below};
 use zdd_ops::Ops;
 
 /// For families the numbers of their sets with the event.

@@ -17,8 +17,8 @@ use Rattle.gts_core.specs.View.{net_of, assign_of}
 use Rattle.gts_core.specs.declared.system.GtsParts.{GtsParts}
 use Rattle.gts_core.proofs.Viewing.{variables_long}
 use Rattle.gts_flatten.specs.Flat.{naming_of_parts}
-use Rattle.replayer.specs.declared.replaying.ReplayFault.{ReplayFault}
-use Rattle.replayer.specs.declared.replaying.ReplayFault.TheVariants.{Write, Memory}
+use Rattle.replayer.specs.declared.ends.ReplayFault.{ReplayFault}
+use Rattle.replayer.specs.declared.ends.ReplayFault.TheVariants.{Write, Memory}
 use Rattle.flow_reasons.specs.Answers.{reason_of, reasons_of}
 use Rattle.flow_reasons.specs.declared.reason.Reason.{Reason}
 use Rattle.reason_text.specs.Answers.{Explains, told_at, told_line, told_lines, AreToldVariables, HaveAssigns}

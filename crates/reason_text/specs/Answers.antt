@@ -13,8 +13,8 @@ use Rattle.ar_meaning.specs.Found.{IsAnswer}
 use Rattle.gts_core.specs.View.{net_of, numbered}
 use Rattle.gts_core.specs.declared.system.Observer.{Observer}
 use Rattle.gts_core.specs.declared.system.GtsParts.{GtsParts}
-use Rattle.replayer.specs.declared.replaying.ReplayFault.{ReplayFault}
-use Rattle.replayer.specs.declared.replaying.ReplayFault.TheVariants.{Write, Memory}
+use Rattle.replayer.specs.declared.ends.ReplayFault.{ReplayFault}
+use Rattle.replayer.specs.declared.ends.ReplayFault.TheVariants.{Write, Memory}
 use Rattle.flow_reasons.specs.declared.reason.Reason.{Reason}
 use Rattle.reason_text.specs.Texts.{reason_line, IsTold}
 

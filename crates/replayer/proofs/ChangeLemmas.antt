@@ -12,7 +12,7 @@ use Rattle.domains.proofs.Same.{same_is, same_self}
 use Rattle.ar_meaning.proofs.OneAnswer.{same_value}
 use Rattle.gts_core.specs.Readings.{valuation_at}
 use Rattle.gts_core.proofs.Reading.{read_value}
-use Rattle.value_changes.specs.Changes.{changed_numbers, HasChanged, AreChanges}
+use Rattle.flow_changes.specs.Changes.{changed_numbers, HasChanged, AreChanges}
 use Rattle.replayer.specs.Printing.{change_text, changes_from, numbered_texts}
 use Rattle.stepper.proofs.Kept.{kept_value}
 

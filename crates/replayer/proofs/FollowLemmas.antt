@@ -26,8 +26,8 @@ use Rattle.replayer.specs.Listing.{visible_ways, able}
 use Rattle.replayer.specs.Printing.{values_text, changes_text, way_lines}
 use Rattle.replayer.specs.Playing.{AreTotal, Follows}
 use Rattle.replayer.specs.Replays.{IsReplay}
-use Rattle.replayer.specs.declared.replaying.End.{End}
-use Rattle.replayer.specs.declared.replaying.End.TheVariants.{Done, Fault}
+use Rattle.replayer.specs.declared.ends.End.{End}
+use Rattle.replayer.specs.declared.ends.End.TheVariants.{Done, Fault}
 use Rattle.replayer.proofs.ListLemmas.{some_answers, is_list, IsList}
 use Rattle.replayer.proofs.TotalLemmas.{step_total, start_total}
 use Rattle.replayer.proofs.ValueLemmas.{observed, changed_lines}

@@ -26,10 +26,10 @@ use Rattle.replayer.specs.Playing as refusal
 use Rattle.replayer.specs.Listing.{visible_ways, able}
 use Rattle.replayer.specs.Printing.{values_text, changes_text, way_lines}
 use Rattle.text_pieces.specs.Faults.{step_text}
-use Rattle.replayer.specs.declared.replaying.End.{End}
-use Rattle.replayer.specs.declared.replaying.End.TheVariants.{Fault}
-use Rattle.replayer.specs.declared.replaying.ReplayFault.{ReplayFault}
-use Rattle.replayer.specs.declared.replaying.ReplayFault.TheVariants.{Write, Memory}
+use Rattle.replayer.specs.declared.ends.End.{End}
+use Rattle.replayer.specs.declared.ends.End.TheVariants.{Fault}
+use Rattle.replayer.specs.declared.ends.ReplayFault.{ReplayFault}
+use Rattle.replayer.specs.declared.ends.ReplayFault.TheVariants.{Write, Memory}
 use Rattle.replayer.proofs.FollowLemmas.{going, later, fires_so, fails_so, back_so, no_step_so, shows_so, lists_so}
 use Rattle.replayer.proofs.ListLemmas.{some_answers, is_list}
 use Rattle.text_pieces.proofs.Ways.{way_named, label_alike}

@@ -17,7 +17,7 @@ use Rattle.gts_core.specs.declared.system.GtsParts.{GtsParts}
 use Rattle.gts_core.specs.declared.system.Observer.{Observer}
 use Rattle.gts_flatten.specs.Flat.{naming_of_parts}
 use Rattle.flow_propagate.specs.Named.{AddsNamed}
-use Rattle.value_changes.specs.Changes.{changed_numbers, AreChanges}
+use Rattle.flow_changes.specs.Changes.{changed_numbers, AreChanges}
 use Rattle.way_flags.proofs.SameReadings.{same_in}
 use Rattle.replayer.specs.Observing.{Observes, AreObserved, AreInOrder, AreTouched}
 use Rattle.replayer.specs.Printing.{seen_by, observed_value, observer_value, numbered_texts, change_text, changes_from, observer_changes, changes_text}

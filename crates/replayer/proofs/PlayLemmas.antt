@@ -23,10 +23,10 @@ use Rattle.replayer.specs.Replays.{IsReplay}
 use Rattle.replayer.specs.ReplaysInside.{AnswersReplay, whole}
 use Rattle.replayer.specs.Replays as answers
 use Rattle.replayer.specs.ReplaysInside as replay
-use Rattle.replayer.specs.declared.replaying.End.{End}
-use Rattle.replayer.specs.declared.replaying.End.TheVariants.{Done, Fault}
-use Rattle.replayer.specs.declared.replaying.ReplayFault.{ReplayFault}
-use Rattle.replayer.specs.declared.replaying.ReplayFault.TheVariants.{Write, Memory}
+use Rattle.replayer.specs.declared.ends.End.{End}
+use Rattle.replayer.specs.declared.ends.End.TheVariants.{Done, Fault}
+use Rattle.replayer.specs.declared.ends.ReplayFault.{ReplayFault}
+use Rattle.replayer.specs.declared.ends.ReplayFault.TheVariants.{Write, Memory}
 use Rattle.replayer.proofs.FollowLemmas.{going, later, total_none, starts_so, no_start_so, some_replay, ends_so}
 
 -- the answer that was passed on

@@ -29,10 +29,10 @@ use Rattle.replayer.specs.Replays.{end_of}
 use Rattle.replayer.specs.Settles.{Settles, IsFaultLine, last_standing}
 use Rattle.replayer.specs.SettlesInside.{AnswersSettle}
 use Rattle.replayer.specs.Settling.{GoesOn, StopsCommand, AnswersCommand, IsRunning}
-use Rattle.replayer.specs.declared.replaying.End.{End}
-use Rattle.replayer.specs.declared.replaying.End.TheVariants.{Fault}
-use Rattle.replayer.specs.declared.replaying.ReplayFault.{ReplayFault}
-use Rattle.replayer.specs.declared.replaying.ReplayFault.TheVariants.{Write, Memory}
+use Rattle.replayer.specs.declared.ends.End.{End}
+use Rattle.replayer.specs.declared.ends.End.TheVariants.{Fault}
+use Rattle.replayer.specs.declared.ends.ReplayFault.{ReplayFault}
+use Rattle.replayer.specs.declared.ends.ReplayFault.TheVariants.{Write, Memory}
 use Rattle.replayer.proofs.ListLemmas.{some_answers, is_list}
 use Rattle.text_pieces.proofs.Ways.{way_named, label_alike}
 

@@ -7,8 +7,8 @@ use Rattle.ar_meaning.specs.TraceText.{Naming}
 use Rattle.ar_meaning.proofs.OneRun.{runs_same}
 use Rattle.replayer.specs.Replays.{end_of}
 use Rattle.replayer.specs.Settles.{Settles, IsFaultLine, last_standing}
-use Rattle.replayer.specs.declared.replaying.End.{End}
-use Rattle.replayer.specs.declared.replaying.End.TheVariants.{Done, Fault}
+use Rattle.replayer.specs.declared.ends.End.{End}
+use Rattle.replayer.specs.declared.ends.End.TheVariants.{Done, Fault}
 
 -- moments that end in a fault are those of a run that does
 faults_last : (before : List Moment) (fault : Moment) → end_of (fault ∷ []) ≡ Fault

@@ -3,9 +3,9 @@ use Rattle.std.proofs.Common.{◌↔◌, ℕ, List}
 use Rattle.ar_base.specs.Lists.{IsOneOf}
 use Rattle.ar_base.specs.Numbers.{VarId}
 use Rattle.ar_base.specs.Sets.{Ascends}
-use Rattle.value_changes.specs.Changes.{changed_numbers}
+use Rattle.flow_changes.specs.Changes.{changed_numbers}
 use Rattle.gts_core.specs.declared.system.GtsParts.{GtsParts}
-use Rattle.number_pairs.specs.Pairing.{IsPaired}
+use Rattle.ar_base.specs.Pairing.{IsPaired}
 use Rattle.replayer.specs.Observing.{AreInOrder, ObserverNamesOne, AreTouched}
 
 -- the numbers that stand in pairs with the variables are those of the observers

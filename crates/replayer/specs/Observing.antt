@@ -10,7 +10,7 @@ use Rattle.domains.specs.declared.Value.{Value}
 use Rattle.gts_core.specs.Readings.{IsTotal}
 use Rattle.gts_core.specs.declared.system.GtsParts.{GtsParts}
 use Rattle.gts_core.specs.declared.system.Observer.{Observer}
-use Rattle.value_changes.specs.Changes.{changed_numbers}
+use Rattle.flow_changes.specs.Changes.{changed_numbers}
 use Rattle.replayer.specs.Listing.{IsListReady}
 use Rattle.replayer.specs.declared.latest.Latest.{Latest}
 

@@ -19,10 +19,10 @@ use Rattle.stepper.specs.declared.faults.StepFault.TheVariants as fault
 use Rattle.text_pieces.specs.WayLabels.{way_label}
 use Rattle.text_pieces.specs.Faults.{step_text}
 use Rattle.replayer.specs.Replays.{end_of, IsReplay}
-use Rattle.replayer.specs.declared.replaying.End.{End}
-use Rattle.replayer.specs.declared.replaying.End.TheVariants.{Done, Fault}
-use Rattle.replayer.specs.declared.replaying.ReplayFault.{ReplayFault}
-use Rattle.replayer.specs.declared.replaying.ReplayFault.TheVariants.{Write, Memory}
+use Rattle.replayer.specs.declared.ends.End.{End}
+use Rattle.replayer.specs.declared.ends.End.TheVariants.{Done, Fault}
+use Rattle.replayer.specs.declared.ends.ReplayFault.{ReplayFault}
+use Rattle.replayer.specs.declared.ends.ReplayFault.TheVariants.{Write, Memory}
 
 -- each of these valuations has a value of its domain for each variable
 pub record AreTotal (p : GtsParts) (below : List (List Value)) : Type 0 where

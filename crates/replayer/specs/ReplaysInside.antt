@@ -6,9 +6,9 @@ use Rattle.ar_io.specs.Writing.{SinkState, Appended, WroteFront}
 use Rattle.ar_meaning.specs.Systems.{System}
 use Rattle.ar_meaning.specs.Runs.{Command}
 use Rattle.ar_meaning.specs.TraceText.{Naming}
-use Rattle.replayer.specs.declared.replaying.End.{End}
-use Rattle.replayer.specs.declared.replaying.ReplayFault.{ReplayFault}
-use Rattle.replayer.specs.declared.replaying.ReplayFault.TheVariants.{Write, Memory}
+use Rattle.replayer.specs.declared.ends.End.{End}
+use Rattle.replayer.specs.declared.ends.ReplayFault.{ReplayFault}
+use Rattle.replayer.specs.declared.ends.ReplayFault.TheVariants.{Write, Memory}
 use Rattle.replayer.specs.Replays.{IsReplay}
 
 -- what a replay answers: the whole text was written, or its first bytes, where the sink's count of faults rose or

@@ -5,7 +5,7 @@ use Rattle.ar_meaning.specs.Systems.{System}
 use Rattle.ar_meaning.specs.Runs.{Command, Moment, Starts, Start_fails, Fires, Fire_fails, Goes_back, No_step, Shows, Lists, Ends, Runs}
 use Rattle.ar_meaning.specs.TraceText.{Naming, MomentText}
 use Rattle.replayer.specs.Replays.{end_of}
-use Rattle.replayer.specs.declared.replaying.End.TheVariants.{Done, Fault}
+use Rattle.replayer.specs.declared.ends.End.TheVariants.{Done, Fault}
 
 -- the valuation that stands after these moments, where t stood before them
 abbrev pub last_standing : List Value → List Moment → List Value

@@ -7,8 +7,8 @@ use Rattle.ar_meaning.specs.Systems.{System}
 use Rattle.ar_meaning.specs.Runs.{Command}
 use Rattle.ar_meaning.specs.TraceText.{Naming}
 use Rattle.gts_core.specs.declared.system.Valuation.{Valuation}
-use Rattle.replayer.specs.declared.replaying.ReplayFault.{ReplayFault}
-use Rattle.replayer.specs.declared.replaying.ReplayFault.TheVariants.{Write, Memory}
+use Rattle.replayer.specs.declared.ends.ReplayFault.{ReplayFault}
+use Rattle.replayer.specs.declared.ends.ReplayFault.TheVariants.{Write, Memory}
 use Rattle.replayer.specs.Settles.{Settles, IsFaultLine}
 
 -- what settling answers: the last standing valuation, and nothing was written; or the run ends in a fault, whose line

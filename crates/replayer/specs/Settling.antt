@@ -9,10 +9,10 @@ use Rattle.ar_meaning.specs.TraceText.{Naming, MomentText}
 use Rattle.stepper.specs.Steps.{Standing}
 use Rattle.replayer.specs.Replays.{end_of}
 use Rattle.replayer.specs.Settles.{last_standing}
-use Rattle.replayer.specs.declared.replaying.End.{End}
-use Rattle.replayer.specs.declared.replaying.End.TheVariants.{Done, Fault}
-use Rattle.replayer.specs.declared.replaying.ReplayFault.{ReplayFault}
-use Rattle.replayer.specs.declared.replaying.ReplayFault.TheVariants.{Write, Memory}
+use Rattle.replayer.specs.declared.ends.End.{End}
+use Rattle.replayer.specs.declared.ends.End.TheVariants.{Done, Fault}
+use Rattle.replayer.specs.declared.ends.ReplayFault.{ReplayFault}
+use Rattle.replayer.specs.declared.ends.ReplayFault.TheVariants.{Write, Memory}
 
 -- the command adds a moment that is no fault to what follows from the standing after it
 pub record GoesOn (sys : System ℕ) (before after : Standing) (c : Command) : Type 0 where

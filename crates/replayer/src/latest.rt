@@ -2,7 +2,7 @@
 
 ghost use Rattle.std.specs.Prelude.{◌≡◌, length, IfOk};
 ghost use Rattle.gts_core.specs.Sound.{IsSound};
-ghost use Rattle.value_changes.specs.Changes.{AreChanges};
+ghost use Rattle.flow_changes.specs.Changes.{AreChanges};
 ghost use Rattle.replayer.specs.Listing.{IsListReady};
 ghost use Rattle.replayer.specs.Observing.{AreInOrder};
 

@@ -11,7 +11,7 @@ ghost use Rattle.gts_flatten.specs.Elaborating.{Elaborated};
 ghost use Rattle.gts_flatten.specs.Flat.{IsFlat, naming_of, naming_of_parts};
 ghost use Rattle.replayer.specs.Replays.{IsReplay};
 ghost use Rattle.replayer.specs.Settles.{Settles, IsFaultLine};
-ghost use Rattle.replayer.specs.declared.replaying.End.{End as TheEnd};
+ghost use Rattle.replayer.specs.declared.ends.End.{End as TheEnd};
 
 use gts_core::laws::one_system;
 

@@ -2,6 +2,7 @@
 #![tactic(auto)]
 
 mod enabled;
+mod ends;
 mod latest;
 pub mod laws;
 mod obeying;
@@ -12,5 +13,6 @@ mod shown;
 mod touched;
 mod trace;
 
-pub use replaying::{End, ReplayFault, replay};
+pub use ends::{End, ReplayFault};
+pub use replaying::replay;
 pub use settling::settle;

@@ -9,11 +9,11 @@ ghost use Rattle.job_inputs.specs.Flat.{command_of, IsWayOfSystem};
 ghost use Rattle.replayer.specs.Observing.{IsLatest};
 ghost use Rattle.replayer.specs.Playing.{AreTotal, AnswersOneCommand, IsReplayRefusal};
 ghost use Rattle.text_pieces.specs.Faults.{IsFaultInRange};
-ghost use Rattle.replayer.specs.declared.replaying.End.TheVariants.{Done};
+ghost use Rattle.replayer.specs.declared.ends.End.TheVariants.{Done};
 
+use crate::ends::{End, ReplayFault};
 use crate::latest::{Latest, follow};
 use crate::ready::find;
-use crate::replaying::{End, ReplayFault};
 use crate::touched::touched;
 use crate::trace::{fired, gone_back, listed, no_step, not_fired, shown};
 use ar_base::WayId;

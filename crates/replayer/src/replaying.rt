@@ -11,56 +11,17 @@ ghost use Rattle.job_inputs.specs.Flat.{command_of, AreFirable};
 ghost use Rattle.replayer.specs.ReplaysInside.{AnswersReplay};
 ghost use Rattle.stepper.specs.Steps.{IsStartFault};
 
+use crate::ends::{End, ReplayFault};
 use crate::latest::at_start;
 use crate::obeying::obey;
 use crate::trace::{ended, not_started, started};
 use ar_base::Memory;
-use ar_io::{Sink, SinkFailed};
+use ar_io::Sink;
 use flow_propagate::PropagateFault;
 use gts_core::Gts;
 use job_inputs::Command;
 use std::alloc::Global;
 use stepper::Stepper;
-
-/// How a run ends.
-#[derive(Clone, Copy)]
-pub enum End {
-    /// At the end of its commands.
-    Done,
-    /// In a fault.
-    Fault,
-}
-
-/// Why a replay was broken off.
-#[derive(Clone, Copy)]
-pub enum ReplayFault {
-    /// The sink failed.
-    Write,
-    /// Memory was refused.
-    Memory,
-}
-
-impl From<SinkFailed> for ReplayFault {
-    ghost use Rattle.std.specs.Prelude.{◌≡◌};
-    ghost use Rattle.replayer.specs.declared.replaying.ReplayFault.TheVariants as fault;
-
-    ghost from_gives = { λ _ e. e ≡ fault.Write };
-
-    fn from(_failed: SinkFailed) -> Self {
-        ReplayFault::Write
-    }
-}
-
-impl From<Memory> for ReplayFault {
-    ghost use Rattle.std.specs.Prelude.{◌≡◌};
-    ghost use Rattle.replayer.specs.declared.replaying.ReplayFault.TheVariants as fault;
-
-    ghost from_gives = { λ _ e. e ≡ fault.Memory };
-
-    fn from(_memory: Memory) -> Self {
-        ReplayFault::Memory
-    }
-}
 
 /// Runs the commands on the system and writes the trace of the run.
 pub fn replay<K: Sink>(

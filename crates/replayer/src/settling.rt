@@ -12,8 +12,8 @@ ghost use Rattle.replayer.specs.SettlesInside.{AnswersSettle};
 ghost use Rattle.replayer.specs.Settling.{AnswersCommand};
 ghost use Rattle.stepper.specs.Steps.{IsStartFault};
 
+use crate::ends::{End, ReplayFault};
 use crate::obeying::refuse;
-use crate::replaying::{End, ReplayFault};
 use crate::trace::{no_step, not_started};
 use ar_base::Memory;
 use ar_io::Sink;

@@ -9,7 +9,7 @@ ghost use Rattle.ar_meaning.specs.ValueTexts.{value_text};
 ghost use Rattle.gts_core.specs.Readings.{IsTotal, valuation_at};
 ghost use Rattle.gts_core.specs.Sound.{IsSound};
 ghost use Rattle.gts_flatten.specs.Flat.{naming_of_parts};
-ghost use Rattle.value_changes.specs.Changes.{changed_numbers, AreChanges};
+ghost use Rattle.flow_changes.specs.Changes.{changed_numbers, AreChanges};
 ghost use Rattle.replayer.specs.Observing.{AreTouched};
 ghost use Rattle.replayer.specs.Printing.{values_text, change_text, observer_lines, observer_value, numbered_texts, changes_text};
 

@@ -5,8 +5,7 @@ ghost use Rattle.std.specs.List.Sorted.{IsNonDecreasingBy};
 ghost use Rattle.gts_core.specs.declared.system.GtsParts.{GtsParts as Parts};
 ghost use Rattle.replayer.specs.Observing.{AreInOrder, AreTouched};
 
-use ar_base::{Memory, VarId};
-use number_pairs::paired;
+use ar_base::{Memory, VarId, paired};
 use std::alloc::Global;
 
 /// The observers that name one of these variables, ascending, by the pairs of a variable and an observer that names it.

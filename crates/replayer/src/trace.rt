@@ -10,7 +10,7 @@ ghost use Rattle.gts_flatten.specs.Flat.{naming_of_parts};
 ghost use Rattle.text_pieces.specs.WayLabels.{way_label};
 ghost use Rattle.text_pieces.specs.Faults.{IsInRange};
 ghost use Rattle.replayer.specs.Listing.{AreInside};
-ghost use Rattle.value_changes.specs.Changes.{AreChanges};
+ghost use Rattle.flow_changes.specs.Changes.{AreChanges};
 ghost use Rattle.replayer.specs.Observing.{AreTouched};
 ghost use Rattle.replayer.specs.Printing.{values_text, changes_text, way_lines};
 ghost use Rattle.text_pieces.specs.Faults.{step_text, IsFaultInRange};

@@ -11,9 +11,9 @@ use Rattle.hierarchy.specs.Units.{Thing}
 use Rattle.source_meaning.specs.Systems.{Declarations, HasDeclarations}
 use Rattle.sync_expand.specs.Counting.{way_rules}
 use Rattle.gts_flatten.specs.Elaborating.{Elaborated, BreaksWayRule, most_ways_counted, way_parts_counted, nodes_counted, HasSystem, has, Flattens}
-use Rattle.unit_laws.specs.Answers.{SameAnswer}
-use Rattle.unit_laws.proofs.Alike.{AreAlike, give, then_alike, told, fits_alike, keeps_alike}
-use Rattle.binding_laws.specs.Declarations.{IsSameThing, SameDeclarations}
+use Rattle.source_laws.specs.Answers.{SameAnswer}
+use Rattle.source_laws.proofs.Alike.{AreAlike, give, then_alike, told, fits_alike, keeps_alike}
+use Rattle.source_laws.specs.Declarations.{IsSameThing, SameDeclarations}
 use Rattle.source_laws.specs.Sources.{SameSource}
 
 -- declarations that are alike, and no two events of which have one key

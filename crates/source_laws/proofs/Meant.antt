@@ -10,7 +10,7 @@ use Rattle.ar_meaning.proofs.ImageWays.{events_along}
 use Rattle.ar_meaning.proofs.OneRun.{events_same}
 use Rattle.hierarchy.specs.Units.{Thing}
 use Rattle.source_meaning.specs.Systems.{Declarations, HasDeclarations}
-use Rattle.binding_laws.specs.Declarations.{IsSameThing, SameDeclarations}
+use Rattle.source_laws.specs.Declarations.{IsSameThing, SameDeclarations}
 
 pub systems_same : (d e : Declarations) → SameDeclarations d e → AreKeyedEvents e.events → (x y : System Thing)
     → HasDeclarations d x → HasDeclarations e y → IsImage IsSameThing x y

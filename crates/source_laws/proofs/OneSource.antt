@@ -11,13 +11,13 @@ use Rattle.instantiate.specs.Unfolding.{Instantiates}
 use Rattle.source_meaning.specs.Systems.{Declarations, Binds}
 use Rattle.source_meaning.proofs.Different.{things_different}
 use Rattle.gts_flatten.specs.Elaborating.{Elaborated, Flattens}
-use Rattle.unit_laws.specs.Answers.{SameAnswer}
-use Rattle.unit_laws.specs.Tables.{SameRooted}
-use Rattle.unit_laws.specs.Units.{SameUnfolded}
-use Rattle.unit_laws.proofs.Alike.{AreAlike, alike_of, alike_where, then_alike, told}
-use Rattle.binding_laws.specs.Declarations.{SameDeclarations}
-use Rattle.binding_laws.proofs.OneBinding.{AreKeptAlike}
-use Rattle.binding_laws.proofs.OneText.{AreRootedAlike, trees_alike}
+use Rattle.source_laws.specs.Answers.{SameAnswer}
+use Rattle.source_laws.specs.Tables.{SameRooted}
+use Rattle.source_laws.specs.Units.{SameUnfolded}
+use Rattle.source_laws.proofs.Alike.{AreAlike, alike_of, alike_where, then_alike, told}
+use Rattle.source_laws.specs.Declarations.{SameDeclarations}
+use Rattle.source_laws.proofs.OneBinding.{AreKeptAlike}
+use Rattle.source_laws.proofs.OneText.{AreRootedAlike, trees_alike}
 use Rattle.source_laws.specs.Sources.{SameSource}
 use Rattle.source_laws.proofs.Flattened.{AlikeByKey}
 use Rattle.source_laws.proofs.Passing.{bound_of, events_keyed}

@@ -15,10 +15,10 @@ use Rattle.source_meaning.specs.Rules.{IsWayOf}
 use Rattle.source_meaning.specs.Rules as rule
 use Rattle.source_meaning.specs.Systems.{Declarations}
 use Rattle.gts_flatten.specs.Elaborating.{BreaksSynchronisation, BreaksWayRule, l14}
-use Rattle.unit_laws.specs.Tables.{SameRooted}
-use Rattle.unit_laws.specs.Views.{SameForms}
-use Rattle.unit_laws.specs.Views as view
-use Rattle.binding_laws.specs.Declarations.{IsSameThing, SameDeclarations}
+use Rattle.source_laws.specs.Tables.{SameRooted}
+use Rattle.source_laws.specs.Views.{SameForms}
+use Rattle.source_laws.specs.Views as view
+use Rattle.source_laws.specs.Declarations.{IsSameThing, SameDeclarations}
 
 -- members that agree are transitions or synchronisations of one name, which stands at one place
 way_there : {f g : MemberForm} {x : NameId} {p : Place} → IsWayOf f x p → SameForms f g → IsWayOf g x p

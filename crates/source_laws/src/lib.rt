@@ -5,4 +5,11 @@
 //! have. Each function here has an empty body, or calls other laws, and states a law.
 #![tactic(auto)]
 
+pub mod bindings;
+pub mod laws;
+pub mod meanings;
+mod outcomes;
 pub mod sources;
+pub mod units;
+
+pub use outcomes::some_outcome;

@@ -18,13 +18,13 @@ ghost use Rattle.instantiate.specs.Unfolding.{Instantiates};
 ghost use Rattle.source_meaning.specs.Systems.{Binds, Declarations, HasDeclarations};
 ghost use Rattle.gts_flatten.specs.Elaborating.{Elaborated, BreaksWayRule, Flattens};
 ghost use Rattle.gts_flatten.specs.Elaborating.{most_ways_counted, way_parts_counted, nodes_counted};
-ghost use Rattle.unit_laws.specs.Answers.{SameAnswer};
-ghost use Rattle.unit_laws.specs.Tables.{SameRooted};
-ghost use Rattle.binding_laws.specs.Declarations.{IsSameThing, SameDeclarations};
+ghost use Rattle.source_laws.specs.Answers.{SameAnswer};
+ghost use Rattle.source_laws.specs.Tables.{SameRooted};
+ghost use Rattle.source_laws.specs.Declarations.{IsSameThing, SameDeclarations};
 ghost use Rattle.source_laws.specs.Sources.{SameSource};
 
-use binding_laws::bindings::one_binding_or_refusal;
-use unit_laws::units::{one_root_of_a_text, units_agree};
+use crate::bindings::one_binding_or_refusal;
+use crate::units::{one_root_of_a_text, units_agree};
 
 /// Declarations that are alike break L14 at the same places: the same synchronisations lead back to
 /// their events.

@@ -34,7 +34,7 @@ use Rattle.written_forms.specs.declared.naming.Leaf.{Leaf}
 use Rattle.written_forms.specs.declared.naming.Leaf.TheVariants as leaf
 use Rattle.written_forms.specs.Parts.{InstrForm, IsPartOf}
 use Rattle.written_forms.specs.Parts as part
-use Rattle.two_way_assignments.specs.Assigning.{SetsBoth}
+use Rattle.written_forms.specs.Assigning.{SetsBoth}
 use Rattle.written_forms.specs.Acting.{ActsAs, ElseActs, All_act}
 use Rattle.written_forms.specs.Acting as acts
 use Rattle.hierarchy.specs.Models.{RootedModel}

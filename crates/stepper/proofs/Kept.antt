@@ -6,7 +6,7 @@ use Rattle.domains.specs.declared.Value.{Value}
 use Rattle.ar_meaning.proofs.OneAnswer.{same_value}
 use Rattle.gts_core.specs.Readings.{valuation_at}
 use Rattle.gts_core.proofs.Reading.{read_value}
-use Rattle.value_changes.specs.Changes.{HasChanged}
+use Rattle.flow_changes.specs.Changes.{HasChanged}
 
 past : (t : List Value) (n : ℕ) → length t ≤ n → valuation_at t n ≡ valuation_at [] 0
 past [] zero h = refl

@@ -5,9 +5,9 @@ use Rattle.domains.specs.declared.Value.{Value}
 use Rattle.flow_propagate.specs.Determined.{IsDetermined}
 use Rattle.flow_changes.specs.declared.present.Present.{Present}
 use Rattle.gts_core.specs.declared.system.GtsParts.{GtsParts}
-use Rattle.value_changes.specs.Changes.{AreChanges}
-use Rattle.value_changes.specs.Restoring.{restored}
-use Rattle.value_changes.specs.Restoring as marks
+use Rattle.flow_changes.specs.Changes.{AreChanges}
+use Rattle.flow_changes.specs.Restoring.{restored}
+use Rattle.flow_changes.specs.Restoring as marks
 use Rattle.way_flags.specs.Ways.{AreFlags}
 use Rattle.way_flags.specs.Turning.{flags_turned}
 use Rattle.stepper.specs.declared.changes.StepChanges.{StepChanges}

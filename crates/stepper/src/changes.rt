@@ -1,7 +1,7 @@
 //! What a step changed.
 
 use ar_base::WayId;
-use value_changes::Changes;
+use flow_changes::Changes;
 
 /// What a step changed: how it is taken back.
 #[derive(Drop)]

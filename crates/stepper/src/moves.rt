@@ -7,7 +7,7 @@ ghost use Rattle.flow_propagate.specs.NewValues.{AreNewValues, written};
 ghost use Rattle.flow_propagate.specs.Plan.{IsPlan};
 ghost use Rattle.ar_meaning.specs.Flows.{Flows, Total};
 ghost use Rattle.flow_changes.specs.Present.{IsPresent, IsFaultOf};
-ghost use Rattle.value_changes.specs.Changes.{AreChanges};
+ghost use Rattle.flow_changes.specs.Changes.{AreChanges};
 ghost use Rattle.way_flags.specs.Index.{IsWayIndex};
 ghost use Rattle.stepper.specs.Changes.{before, point_at};
 ghost use Rattle.gts_core.specs.View.{net_of, IsWayAt};
@@ -23,9 +23,8 @@ use domains::Value;
 use flow_changes::{Present, propagate_from, restore};
 use flow_propagate::{Plan, PropagateFault};
 use gts_core::{Gts, GtsParts, Valuation};
-use part_flags::is_set;
 use std::alloc::Global;
-use way_flags::{ReceiveFault, WayIndex, received, renew};
+use way_flags::{ReceiveFault, WayIndex, is_set, received, renew};
 
 /// What the state variables receive where a way is fired, or the fault of the way or of what they receive.
 pub(crate) fn next_values(

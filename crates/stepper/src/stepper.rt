@@ -13,7 +13,7 @@ ghost use Rattle.gts_core.specs.Readings.{IsTotal};
 ghost use Rattle.ar_meaning.specs.Flows.{Flows, Total};
 ghost use Rattle.flow_propagate.specs.NewValues.{AreNewValues, written};
 ghost use Rattle.flow_changes.specs.Present.{IsFaultOf};
-ghost use Rattle.value_changes.specs.Changes.{AreChanges};
+ghost use Rattle.flow_changes.specs.Changes.{AreChanges};
 ghost use Rattle.stepper.specs.Steps.{IsStartFault, IsStepFault};
 
 use crate::changes::StepChanges;
@@ -25,10 +25,9 @@ use domains::Value;
 use flow_changes::{Present, make_present, restore};
 use flow_propagate::{Plan, PropagateFault, make_plan};
 use gts_core::{Gts, Valuation};
-use part_flags::is_set;
 use std::alloc::Global;
 use std::marker::Model;
-use way_flags::{WayIndex, turn, way_flags, way_index};
+use way_flags::{WayIndex, is_set, turn, way_flags, way_index};
 
 /// A run of a flat system, step by step: seen as the system's parts, the present total valuation, the standing valuations
 /// below it, the nearest first, and the variables that the last step or way back changed.

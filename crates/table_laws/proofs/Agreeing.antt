@@ -25,8 +25,8 @@ use Rattle.eq_core.specs.ValuesInside.{IsTrueWhere}
 use Rattle.eq_build.specs.Tells.{AreEntries}
 use Rattle.table_laws.specs.Known.{IsSomeFlow, IsConflict, Totals}
 use Rattle.table_laws.proofs.Faults.{conflict_faults, no_conflict_flows}
-use Rattle.table_steps.specs.Steps.{first_reading}
-use Rattle.table_steps.specs.Table.{IsTable}
+use Rattle.eq_build.specs.Steps.{first_reading}
+use Rattle.eq_build.specs.Table.{IsTable}
 use Rattle.table_laws.proofs.Growing.{modes_to_seen}
 use Rattle.table_laws.proofs.RoundsHold.{held, held_is, to_held}
 use Rattle.table_laws.proofs.ModesTell.{all_modes_tell}

@@ -24,8 +24,8 @@ use Rattle.eq_build.specs.Tells.{AreEntries, IsBuilt}
 use Rattle.eq_build.proofs.EntriesTell.{entries_kept, entries_as, entry_tells}
 use Rattle.eq_build.proofs.BuildsTell.{IsRead, read_on, builds_tell}
 use Rattle.table_laws.specs.Known.{AssignsValue}
-use Rattle.table_steps.specs.Steps.{Reading, Threads, none, one_and, BuiltAssign, Builds_conditions, Builds_assign, builds, Gives_target, gives, assigns_to, RoundOf, round_of}
-use Rattle.table_steps.specs.Steps as w
+use Rattle.eq_build.specs.Steps.{Reading, Threads, none, one_and, BuiltAssign, Builds_conditions, Builds_assign, builds, Gives_target, gives, assigns_to, RoundOf, round_of}
+use Rattle.eq_build.specs.Steps as w
 use Rattle.table_laws.proofs.OperandsTell.{TellTogether, together_kept, together_as, together_before, nothing_told}
 use Rattle.table_laws.proofs.TermsTell.{EntriesTell, SomeHas, together_built, IsInside, given_built}
 

@@ -8,7 +8,7 @@ use Rattle.ar_meaning.specs.Dependence.{Names, IsFlow, flow_count}
 use Rattle.flow_blocks.specs.Blocks.{directly}
 use Rattle.flow_blocks.proofs.LawLemmas.{in_some, in_one, in_earlier}
 use Rattle.table_laws.specs.Known.{IsSomeFlow, AreOfFlows}
-use Rattle.table_steps.specs.Steps.{AreBlocks}
+use Rattle.eq_build.specs.Steps.{AreBlocks}
 use Rattle.table_laws.proofs.FirstReading.{variable_or_none}
 use Rattle.table_laws.proofs.FlowCounts.{flow_within, flow_number, number_flow}
 use Rattle.table_laws.proofs.KnownInEnd.{AreInOrder, IsAmong}

@@ -11,7 +11,7 @@ use Rattle.eq_core.specs.ValuesInside.{IsTrueWhere, EachTrue}
 use Rattle.eq_build.specs.Entries.{Entry, one_of_alls}
 use Rattle.eq_build.specs.Tells.{AreEntries}
 use Rattle.eq_build.proofs.EntriesTell.{is_so}
-use Rattle.table_steps.specs.Steps.{others_with, pairs_in, outside_terms, broken_terms}
+use Rattle.eq_build.specs.Steps.{others_with, pairs_in, outside_terms, broken_terms}
 use Rattle.table_laws.proofs.OperandsTell.{TellTogether, together_more, together_as, nothing_told, one_tells}
 
 -- a list of an entry's operand and one of another value

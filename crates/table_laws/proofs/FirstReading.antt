@@ -19,7 +19,7 @@ use Rattle.eq_build.specs.Entries.{Entry, only}
 use Rattle.eq_build.specs.Tells.{AreEntries}
 use Rattle.eq_build.proofs.EntriesTell.{entries_as}
 use Rattle.eq_build.proofs.FormsTell.{only_tells}
-use Rattle.table_steps.specs.Steps.{in_order, modes_at, first_reading}
+use Rattle.eq_build.specs.Steps.{in_order, modes_at, first_reading}
 use Rattle.table_laws.proofs.OrderOfEntries.{order_tells}
 use Rattle.table_laws.proofs.ModesTell.{TreeTells}
 

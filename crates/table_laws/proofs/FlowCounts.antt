@@ -7,7 +7,7 @@ use Rattle.ar_base.proofs.Standing.{stands_none, stands_one}
 use Rattle.ar_meaning.specs.Systems.{Variable, Net}
 use Rattle.ar_meaning.specs.FactsInside.{AreKeyed}
 use Rattle.ar_meaning.specs.Dependence.{flow_count, IsFlow}
-use Rattle.table_steps.proofs.Uses.{before_flow}
+use Rattle.eq_build.proofs.Uses.{before_flow}
 
 -- a variable more
 one_counted : (v : Variable ℕ) (vs : List (Variable ℕ))

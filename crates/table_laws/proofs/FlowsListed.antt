@@ -3,7 +3,7 @@ use Rattle.std.proofs.Common.{◌≡◌, ℕ, zero, suc, ◌+◌, inl, inr, Bool
 use Rattle.ar_base.specs.Lists.{Stands, IsOneOf}
 use Rattle.ar_base.proofs.Standing.{stands_none, one_cases, one_first, one_rest, one_none, one_left, one_right, one_split}
 use Rattle.ar_meaning.specs.Systems.{Assign, Variable, Net}
-use Rattle.table_steps.specs.Steps.{MayLeave, MayLeaveOf, no_assign, may, may_not, AllMayLeave, no_variable, state_and, flow_and, flows_from}
+use Rattle.eq_build.specs.Steps.{MayLeave, MayLeaveOf, no_assign, may, may_not, AllMayLeave, no_variable, state_and, flow_and, flows_from}
 use Rattle.table_laws.proofs.AssignsTell.{one_assign, assign_one}
 
 -- the flows of a list of variables that begins at number n

@@ -9,9 +9,9 @@ use Rattle.eq_core.specs.ValuesInside.{GainsGates}
 use Rattle.eq_core.proofs.Telling.{grows_self, grows_on, all_more, any_more}
 use Rattle.eq_build.specs.Entries.{Entry}
 use Rattle.eq_build.proofs.Growing.{one_more, terms_more, builds_more}
-use Rattle.table_steps.specs.Steps.{Reading, Threads, as_terms, BuiltAssign, Builds_conditions, Builds_assign, builds, given_terms, Gives_target, gives, together, RoundOf, round_of, Rounds, no_round, round_and, All_rounds, no_block, block_and, pairs_in, Sees_two, sees_two, outside_terms, Sees_outside, sees_outside, opposites, Totals_of, total, broken_terms, Sees_broken, sees_broken}
-use Rattle.table_steps.specs.Steps as w
-use Rattle.table_steps.specs.Table.{IsTable}
+use Rattle.eq_build.specs.Steps.{Reading, Threads, as_terms, BuiltAssign, Builds_conditions, Builds_assign, builds, given_terms, Gives_target, gives, together, RoundOf, round_of, Rounds, no_round, round_and, All_rounds, no_block, block_and, pairs_in, Sees_two, sees_two, outside_terms, Sees_outside, sees_outside, opposites, Totals_of, total, broken_terms, Sees_broken, sees_broken}
+use Rattle.eq_build.specs.Steps as w
+use Rattle.eq_build.specs.Table.{IsTable}
 
 module _ {A B : Type 0} (R : List Gate → A → B → List Gate → Type 0)
     (each : (g h : List Gate) (a : A) (b : B) → R g a b h → GainsGates g h) where

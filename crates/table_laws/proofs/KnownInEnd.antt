@@ -14,7 +14,7 @@ use Rattle.eq_core.specs.ValuesInside.{GainsGates}
 use Rattle.eq_core.proofs.Telling.{grows_on}
 use Rattle.eq_build.specs.Entries.{operand_for}
 use Rattle.table_laws.specs.Known.{HasRounds, IsKnownInTheEnd, IsSomeFlow, AreOfFlows}
-use Rattle.table_steps.specs.Steps.{Reading, All_rounds, no_block, block_and}
+use Rattle.eq_build.specs.Steps.{Reading, All_rounds, no_block, block_and}
 use Rattle.table_laws.proofs.Growing.{all_rounds_more}
 use Rattle.table_laws.proofs.RoundsHold.{held, IsSound, Follows, RoundsHold, rounds_hold, reading_at, reading_first, reading_last}
 

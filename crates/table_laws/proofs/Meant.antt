@@ -22,8 +22,8 @@ use Rattle.ar_firing.proofs.RunsTold.{meets_told, meets_as}
 use Rattle.ar_firing.proofs.OneListing.{listed_as}
 use Rattle.mode_trees.specs.Views.{trees_of}
 use Rattle.mode_trees.specs.declared.forests.Forest.{Forest}
-use Rattle.zdd_families.specs.Families.{Family as Sets, has}
-use Rattle.zdd_families.proofs.Minimal.{member_of}
+use Rattle.zdd_nodes.specs.Families.{Family as Sets, has}
+use Rattle.zdd_nodes.proofs.Minimal.{member_of}
 use Rattle.zdd_nodes.specs.Nodes.{IsFamilyNumber}
 use Rattle.eq_core.specs.Gates.{Table}
 use Rattle.eq_core.specs.Values.{value_at}

@@ -25,8 +25,8 @@ use Rattle.eq_core.proofs.Telling.{grows_self, grows_on, tells_kept, tells_as, a
 use Rattle.eq_build.specs.Entries.{Entry, Built}
 use Rattle.eq_build.specs.Tells.{AreEntries}
 use Rattle.eq_build.proofs.EntriesTell.{entries_kept, entry_cases, true_kept, entry_first, entry_rest, is_so}
-use Rattle.table_steps.specs.Steps.{Threads, none, one_and, not_left, modes_of, Has_modes, modes}
-use Rattle.table_steps.specs.Steps as w
+use Rattle.eq_build.specs.Steps.{Threads, none, one_and, not_left, modes_of, Has_modes, modes}
+use Rattle.eq_build.specs.Steps as w
 use Rattle.table_laws.proofs.OperandsTell.{TellTogether, together_before, together_as, nothing_told}
 use Rattle.table_laws.proofs.OrderOfEntries.{Differ, differ_more}
 

@@ -10,7 +10,7 @@ use Rattle.eq_core.specs.ValuesInside.{IsBelow, IsTrueWhere, GainsGates, EachTru
 use Rattle.eq_core.proofs.Telling.{value_kept, below_kept, tells_kept, tells_as, any_tells}
 use Rattle.eq_build.specs.Entries.{one_of_alls}
 use Rattle.eq_build.proofs.EntriesTell.{OneAll, AllBelow, one_grows}
-use Rattle.table_steps.specs.Steps.{Threads, none, one_and}
+use Rattle.eq_build.specs.Steps.{Threads, none, one_and}
 use Rattle.table_laws.proofs.Growing.{threads_more}
 
 -- operands that are all true exactly where P holds

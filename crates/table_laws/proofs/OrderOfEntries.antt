@@ -11,7 +11,7 @@ use Rattle.eq_core.specs.ValuesInside.{IsTrueWhere}
 use Rattle.eq_build.specs.Entries.{Entry, Term, Group, with_term, with_terms, one_of_alls, is_never, with_entry, entries_of}
 use Rattle.eq_build.specs.Tells.{AreEntries}
 use Rattle.eq_build.proofs.EntriesTell.{entry_cases, true_kept, entry_first, entry_rest}
-use Rattle.table_steps.specs.Steps.{as_terms, in_order}
+use Rattle.eq_build.specs.Steps.{as_terms, in_order}
 use Rattle.table_laws.proofs.TermsTell.{own_term, own_of, of_own}
 
 -- no two of the entries have one value

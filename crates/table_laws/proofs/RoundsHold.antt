@@ -19,7 +19,7 @@ use Rattle.eq_build.specs.Entries.{Entry, operand_for}
 use Rattle.eq_build.specs.Tells.{AreEntries}
 use Rattle.eq_build.proofs.EntriesTell.{entries_kept, entries_as, entry_tells}
 use Rattle.table_laws.specs.Known.{ReadingHolds, AssignsValue}
-use Rattle.table_steps.specs.Steps.{Reading, Threads, RoundOf, updated, Rounds, no_round, round_and}
+use Rattle.eq_build.specs.Steps.{Reading, Threads, RoundOf, updated, Rounds, no_round, round_and}
 use Rattle.table_laws.proofs.Growing.{rounds_more}
 use Rattle.table_laws.proofs.AssignsTell.{Comes, round_tells}
 

@@ -21,8 +21,8 @@ use Rattle.eq_build.proofs.BuildsOrdered.{ReadsBelow, entries_on, row_ordered, t
 use Rattle.eq_build.proofs.EntriesTell.{AllBelow, entry_cases}
 use Rattle.eq_build.proofs.FormsTell.{map_one, one_below, two_below}
 use Rattle.eq_build.proofs.Growing.{one_more, terms_more, builds_more}
-use Rattle.table_steps.specs.Steps as s
-use Rattle.table_steps.specs.Steps.{Reading, Threads, not_left, modes_of, as_terms, BuiltAssign, Builds_conditions, Builds_assign, Gives_target, given_terms, together, RoundOf, Sees_two, pairs_in, others_with, Sees_outside, outside_terms, Totals_of, opposites, Sees_broken, broken_terms}
+use Rattle.eq_build.specs.Steps as s
+use Rattle.eq_build.specs.Steps.{Reading, Threads, not_left, modes_of, as_terms, BuiltAssign, Builds_conditions, Builds_assign, Gives_target, given_terms, together, RoundOf, Sees_two, pairs_in, others_with, Sees_outside, outside_terms, Totals_of, opposites, Sees_broken, broken_terms}
 use Rattle.table_laws.proofs.OrderOfEntries.{Differ, differ_more}
 use Rattle.table_laws.proofs.ModesTell.{RowsDiffer, rows_differ}
 

@@ -17,9 +17,9 @@ use Rattle.eq_build.specs.Entries.{Entry}
 use Rattle.eq_build.specs.Laws.{EntriesBelow}
 use Rattle.eq_build.proofs.BuildsOrdered.{entries_on, read_below, only_below, builds_ordered}
 use Rattle.eq_build.proofs.Growing.{builds_more}
-use Rattle.table_steps.specs.Steps as s
-use Rattle.table_steps.specs.Steps.{Reading, Has_modes, modes_at, first_reading, in_order, RoundOf, Rounds, All_rounds, updated, Sees_two, Sees_outside, Totals_of, Sees_broken}
-use Rattle.table_steps.specs.Table.{IsTable, flow_numbers}
+use Rattle.eq_build.specs.Steps as s
+use Rattle.eq_build.specs.Steps.{Reading, Has_modes, modes_at, first_reading, in_order, RoundOf, Rounds, All_rounds, updated, Sees_two, Sees_outside, Totals_of, Sees_broken}
+use Rattle.eq_build.specs.Table.{IsTable, flow_numbers}
 use Rattle.table_laws.proofs.OrderOfEntries.{from_order}
 use Rattle.table_laws.proofs.StepsOrdered.{Kept, IsRow, modes_kept, threads_kept, IsRead, read_on, round_kept, two_kept, outside_kept, total_kept, broken_kept}
 

@@ -22,9 +22,9 @@ use Rattle.eq_build.specs.Tells.{AreEntries}
 use Rattle.eq_build.proofs.EntriesTell.{entries_kept, entries_as, entry_tells}
 use Rattle.eq_build.proofs.BuildsTell.{builds_tell}
 use Rattle.table_laws.specs.Known.{ReadingHolds, IsSomeFlow, AreOfFlows, IsKnownInTheEnd, Totals, is_known, is_reset, IsConflict, seen_two, seen_outside, seen_broken}
-use Rattle.table_steps.specs.Steps.{Reading, Threads, updated, Sees_two, sees_two, Sees_outside, sees_outside, Sees_broken, sees_broken, MayLeave, Totals_of, total, flows_from, first_reading}
-use Rattle.table_steps.specs.Steps as w
-use Rattle.table_steps.specs.Table.{IsTable, flow_numbers}
+use Rattle.eq_build.specs.Steps.{Reading, Threads, updated, Sees_two, sees_two, Sees_outside, sees_outside, Sees_broken, sees_broken, MayLeave, Totals_of, total, flows_from, first_reading}
+use Rattle.eq_build.specs.Steps as w
+use Rattle.eq_build.specs.Table.{IsTable, flow_numbers}
 use Rattle.table_laws.proofs.OperandsTell.{TellSome, some_kept, some_or, any_of_some, SomeIs, some_along, threads_tell}
 use Rattle.table_laws.proofs.Growing.{threads_more, two_more, outside_more, broken_more, totals_more, joint_is, up_seen, up_conflict, up_totals, up_outs, up_twos, up_rounds, rounds_to_seen}
 use Rattle.table_laws.proofs.AssignsTell.{assign_tells}

@@ -11,7 +11,7 @@ use Rattle.eq_core.specs.ValuesInside.{IsTrueWhere, EachTrue}
 use Rattle.eq_build.specs.Entries.{Entry, Term, entries_for}
 use Rattle.eq_build.specs.Tells.{AreEntries, IsBuilt}
 use Rattle.eq_build.proofs.EntriesTell.{SomeTerm, terms_tell}
-use Rattle.table_steps.specs.Steps.{as_terms, given_terms, together}
+use Rattle.eq_build.specs.Steps.{as_terms, given_terms, together}
 use Rattle.table_laws.proofs.OperandsTell.{TellTogether, together_more, together_before, together_as, nothing_told}
 
 -- an entry as a term of its own

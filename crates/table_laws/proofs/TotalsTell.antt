@@ -10,7 +10,7 @@ use Rattle.eq_core.proofs.Telling.{grows_on, tells_as, tells_opposite, all_tells
 use Rattle.eq_build.specs.Entries.{Entry, Term}
 use Rattle.eq_build.specs.Tells.{AreEntries, IsBuilt}
 use Rattle.eq_build.proofs.EntriesTell.{entries_kept, SomeTerm, terms_tell}
-use Rattle.table_steps.specs.Steps.{as_terms, opposites, total_of}
+use Rattle.eq_build.specs.Steps.{as_terms, opposites, total_of}
 use Rattle.table_laws.proofs.OperandsTell.{TellTogether, together_before, together_as, nothing_told}
 use Rattle.table_laws.proofs.TermsTell.{own_term, own_of, of_own, own_tells, single_tells}
 

@@ -5,7 +5,7 @@ use Rattle.typed_expr.specs.declared.expr.Expr.{Expr}
 use Rattle.ar_meaning.specs.Systems.{System}
 use Rattle.ar_firing.specs.Cuts.{Cut, ConflictSet, IsConflictFreeUpTo}
 use Rattle.ar_firing.specs.Listed.{AreListed}
-use Rattle.zdd_families.specs.Families.{Family as Sets}
+use Rattle.zdd_nodes.specs.Families.{Family as Sets}
 use Rattle.zdd_nodes.specs.Nodes.{family}
 use Rattle.firable_families.specs.Firable.{AndUpTo}
 use Rattle.gate_diagrams.specs.declared.answer.Family.{Family}

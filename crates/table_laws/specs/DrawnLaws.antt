@@ -10,14 +10,14 @@ use Rattle.ar_firing.specs.Static.{IsKeyedStatic}
 use Rattle.gts_core.specs.Lawful.{IsLawful}
 use Rattle.mode_trees.specs.Views.{trees_of}
 use Rattle.mode_trees.specs.declared.forests.Forest.{Forest}
-use Rattle.zdd_families.specs.Families.{has}
+use Rattle.zdd_nodes.specs.Families.{has}
 use Rattle.zdd_nodes.specs.Nodes.{IsFamilyNumber}
 use Rattle.eq_core.specs.Gates.{Table}
 use Rattle.firable_families.specs.FirableInside.{IsFirableOf}
 use Rattle.gate_diagrams.specs.Answers.{IsAnswerUpTo}
 use Rattle.gate_diagrams.specs.NodeLimits.{NodesMayUpTo}
 use Rattle.gate_diagrams.specs.declared.answer.Drawn.{Drawn}
-use Rattle.table_steps.specs.Table.{IsTable}
+use Rattle.eq_build.specs.Table.{IsTable}
 use Rattle.table_laws.specs.Drawn.{AreDrawnUpTo, sets_of, family_of}
 
 -- what is drawn for the table of a lawful static system by the trees of its forest, whatever the numbers of their ways,

@@ -15,7 +15,7 @@ use Rattle.ar_firing.specs.Trees.{AreTrees}
 use Rattle.eq_core.specs.Gates.{Table}
 use Rattle.eq_core.specs.Ordered.{IsOrderedTable}
 use Rattle.eq_core.specs.Values.{value_at}
-use Rattle.table_steps.specs.Table.{IsTable}
+use Rattle.eq_build.specs.Table.{IsTable}
 
 -- the table of a lawful static system with these trees, for a well-typed observer, agrees with the system: at each
 -- firable set its conflict operand is true exactly where the flows of the state are a fault, and where it is false its

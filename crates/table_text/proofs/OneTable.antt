@@ -14,8 +14,8 @@ use Rattle.ar_firing.specs.Forest.{ModeTree}
 use Rattle.ar_firing.specs.Static.{IsKeyedStatic}
 use Rattle.ar_firing.proofs.OneForest.{forest_same}
 use Rattle.eq_core.specs.Gates.{Table}
-use Rattle.table_steps.specs.Table.{IsTable}
-use Rattle.table_steps.proofs.Same.{same_table}
+use Rattle.eq_build.specs.Table.{IsTable}
+use Rattle.eq_build.proofs.TableSame.{same_table}
 use Rattle.table_text.specs.Texts.{IsTableFor}
 use Rattle.table_text.proofs.TableThere.{Same, variables_same, table_there}
 

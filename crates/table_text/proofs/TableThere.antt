@@ -22,9 +22,9 @@ use Rattle.flow_blocks.specs.Blocks.{Follow}
 use Rattle.eq_core.specs.Gates.{Operand, Gate, Table}
 use Rattle.eq_build.specs.Entries.{Entry, one_of_alls}
 use Rattle.eq_build.proofs.Renaming.{builds_renamed}
-use Rattle.table_steps.specs.Steps as s
-use Rattle.table_steps.specs.Steps.{Reading, Threads, BuiltAssign, Builds_conditions, Builds_assign, Gives_target, RoundOf, Rounds, All_rounds, MayLeave, MayLeaveOf, AllMayLeave, Sees_two, Sees_outside, Totals_of, Sees_broken, AreBlocks, first_reading, updated, flows_from, assigns_to, broken_terms}
-use Rattle.table_steps.specs.Table.{IsTable, flow_numbers}
+use Rattle.eq_build.specs.Steps as s
+use Rattle.eq_build.specs.Steps.{Reading, Threads, BuiltAssign, Builds_conditions, Builds_assign, Gives_target, RoundOf, Rounds, All_rounds, MayLeave, MayLeaveOf, AllMayLeave, Sees_two, Sees_outside, Totals_of, Sees_broken, AreBlocks, first_reading, updated, flows_from, assigns_to, broken_terms}
+use Rattle.eq_build.specs.Table.{IsTable, flow_numbers}
 
 -- the same number
 abbrev pub Same : ℕ → ℕ → Type 0

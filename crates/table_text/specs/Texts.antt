@@ -8,7 +8,7 @@ use Rattle.ar_meaning.specs.FlatOf.{IsFlatOf}
 use Rattle.ar_meaning.specs.TraceText.{Naming}
 use Rattle.ar_firing.specs.Forest.{ModeTree, IsForest}
 use Rattle.eq_core.specs.Gates.{Table}
-use Rattle.table_steps.specs.Table.{IsTable}
+use Rattle.eq_build.specs.Table.{IsTable}
 use Rattle.aralia_text.specs.Texts.{equations_text}
 
 -- the system's gate table, for the observer of this number and the wanted value: it speaks of variables by their places

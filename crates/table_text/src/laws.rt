@@ -16,13 +16,13 @@ ghost use Rattle.gts_flatten.specs.Flat.{IsFlat, naming_of, naming_of_parts};
 ghost use Rattle.hierarchy.specs.Listing.{variables};
 ghost use Rattle.mode_trees.specs.Views.{trees_of, number_in};
 ghost use Rattle.mode_trees.specs.declared.forests.Forest.{Forest as TheForest};
-ghost use Rattle.table_steps.specs.Laws.{HasTable};
-ghost use Rattle.table_steps.specs.Table.{IsTable};
+ghost use Rattle.eq_build.specs.TableLaws.{HasTable};
+ghost use Rattle.eq_build.specs.Table.{IsTable};
 ghost use Rattle.aralia_text.specs.Texts.{equations_text};
 ghost use Rattle.table_text.specs.Texts.{IsTableFor, IsTableText};
 
+use eq_build::one_table;
 use gts_core::laws::{lawful_systems, one_system};
-use table_steps::one_table;
 
 /// The gate table of a flat system is that of its source, and has, as it is written, its text. Sound
 /// parts have a table for each observer, each list of trees and each value.

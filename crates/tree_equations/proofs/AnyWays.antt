@@ -10,9 +10,9 @@ use Rattle.eq_build.specs.Entries.{Entry, Built, with_entry}
 use Rattle.mode_trees.specs.Views.{edge_row, tree_of}
 use Rattle.mode_trees.specs.declared.forests.Edge.{Edge}
 use Rattle.mode_trees.specs.declared.forests.ModeTree.{ModeTree}
-use Rattle.table_steps.specs.Steps.{Reading, Threads, Has_modes, not_left, entered, modes_of, in_order, modes_at, first_reading, All_rounds}
-use Rattle.table_steps.specs.Steps as t
-use Rattle.table_steps.specs.Table.{IsTable}
+use Rattle.eq_build.specs.Steps.{Reading, Threads, Has_modes, not_left, entered, modes_of, in_order, modes_at, first_reading, All_rounds}
+use Rattle.eq_build.specs.Steps as t
+use Rattle.eq_build.specs.Table.{IsTable}
 use Rattle.tree_equations.proofs.Determined.{modes_one}
 
 module _ (f k : ℕ → ℕ) where

@@ -11,9 +11,9 @@ use Rattle.eq_build.specs.Entries.{Entry, operand_for}
 use Rattle.eq_build.specs.Builds.{Builds}
 use Rattle.eq_build.specs.BuildsInside.{most_gates}
 use Rattle.eq_build.proofs.Growing.{longer_on, builds_more}
-use Rattle.table_steps.specs.Steps.{Reading, Threads, Has_modes, first_reading, All_rounds, AreBlocks, Sees_two, AllMayLeave, Sees_outside, Totals_of, Sees_broken, updated, flows_from}
-use Rattle.table_steps.specs.Table.{IsTable, flow_numbers}
-use Rattle.table_steps.proofs.Blocks.{blocks_same}
+use Rattle.eq_build.specs.Steps.{Reading, Threads, Has_modes, first_reading, All_rounds, AreBlocks, Sees_two, AllMayLeave, Sees_outside, Totals_of, Sees_broken, updated, flows_from}
+use Rattle.eq_build.specs.Table.{IsTable, flow_numbers}
+use Rattle.eq_build.proofs.Blocks.{blocks_same}
 use Rattle.tree_equations.specs.Answers.{TooMany}
 use Rattle.tree_equations.specs.Seen.{GivesConflicts, Conflicting}
 use Rattle.tree_equations.proofs.Determined.{threads_one, modes_one, two_one, out_one, total_one, broken_one, all_rounds_one, leaving_one}

@@ -9,8 +9,8 @@ use Rattle.ar_firing.specs.Forest.{ModeTree}
 use Rattle.eq_core.specs.Gates.{Operand, Gate}
 use Rattle.eq_build.specs.Entries.{Entry, Built, operand_for, entries_for, one_of_alls}
 use Rattle.eq_build.proofs.Same.{builds_same}
-use Rattle.table_steps.specs.Steps.{Reading, Threads, BuiltAssign, Builds_conditions, Builds_assign, Gives_target, RoundOf, Rounds, All_rounds, Sees_two, MayLeaveOf, AllMayLeave, Sees_outside, Totals_of, Sees_broken, Has_modes, given_terms, outside_terms, broken_terms, together, assigns_to, updated}
-use Rattle.table_steps.specs.Steps as t
+use Rattle.eq_build.specs.Steps.{Reading, Threads, BuiltAssign, Builds_conditions, Builds_assign, Gives_target, RoundOf, Rounds, All_rounds, Sees_two, MayLeaveOf, AllMayLeave, Sees_outside, Totals_of, Sees_broken, Has_modes, given_terms, outside_terms, broken_terms, together, assigns_to, updated}
+use Rattle.eq_build.specs.Steps as t
 
 -- what comes out is the same, and so are the gates
 abbrev pub AreOne : {B : Type 0} → B → B → List Gate → List Gate → Type 0

@@ -11,8 +11,8 @@ use Rattle.eq_build.specs.Views.{StopsBuilding}
 use Rattle.eq_build.specs.declared.entries.BuildFault.{BuildFault}
 use Rattle.eq_build.proofs.Stopping.{stops_up, passed_on}
 use Rattle.eq_build.proofs.Threading.{SoFar, Parted, nothing_yet, one_further, operand_stops, all_built}
-use Rattle.table_steps.specs.Steps.{Threads}
-use Rattle.table_steps.specs.Steps as t
+use Rattle.eq_build.specs.Steps.{Threads}
+use Rattle.eq_build.specs.Steps as t
 use Rattle.tree_equations.specs.Answers.{TooMany, Gives}
 use Rattle.tree_equations.proofs.Determined.{AreOne}
 use Rattle.tree_equations.proofs.Rising.{threads_more}

@@ -8,8 +8,8 @@ use Rattle.domains.specs.declared.Value.{Value}
 use Rattle.ar_firing.specs.Forest.{Row, ModeTree}
 use Rattle.eq_core.specs.Gates.{Operand, Always, Never, EventIs, GateIs, Gate, closed_as, joined, all_of}
 use Rattle.eq_build.specs.Entries.{Entry, Group, with_term, with_terms, with_entry, is_never, all_of_each, one_of_alls, entries_of, entries_for}
-use Rattle.table_steps.specs.Steps.{Threads, Has_modes, as_terms, not_left, entered, modes_of}
-use Rattle.table_steps.specs.Steps as t
+use Rattle.eq_build.specs.Steps.{Threads, Has_modes, as_terms, not_left, entered, modes_of}
+use Rattle.eq_build.specs.Steps as t
 use Rattle.ar_base.proofs.Standing.{stands_map, stands_map_back}
 use Rattle.eq_build.specs.BuildsInside.{most_gates}
 use Rattle.eq_build.specs.Views.{entry_of, lists_in}

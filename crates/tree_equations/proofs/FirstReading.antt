@@ -12,7 +12,7 @@ use Rattle.eq_build.specs.Views.{lists_in, row_at}
 use Rattle.gts_core.specs.View.{variables_from}
 use Rattle.gts_core.specs.declared.system.Variable.{Variable}
 use Rattle.mode_trees.specs.declared.forests.ModeTree.{ModeTree}
-use Rattle.table_steps.specs.Steps.{Reading, first_reading, modes_at, in_order}
+use Rattle.eq_build.specs.Steps.{Reading, first_reading, modes_at, in_order}
 use Rattle.tree_equations.specs.Answers.{Entries, row_in, trees_in, tree_in, init_of}
 use Rattle.tree_equations.proofs.RowsPut.{row_set}
 

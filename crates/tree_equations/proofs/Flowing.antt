@@ -21,8 +21,8 @@ use Rattle.gts_core.proofs.Viewing.{variable_there}
 use Rattle.gts_core.specs.declared.system.Variable.{Variable}
 use Rattle.gts_core.specs.declared.system.Assign.{Assign}
 use Rattle.gts_core.specs.declared.system.GtsParts.{GtsParts}
-use Rattle.table_steps.specs.Steps.{Reading, Threads, BuiltAssign, Builds_conditions, Builds_assign, Gives_target, RoundOf, Rounds, All_rounds, given_terms, together, assigns_to, updated}
-use Rattle.table_steps.specs.Steps as t
+use Rattle.eq_build.specs.Steps.{Reading, Threads, BuiltAssign, Builds_conditions, Builds_assign, Gives_target, RoundOf, Rounds, All_rounds, given_terms, together, assigns_to, updated}
+use Rattle.eq_build.specs.Steps as t
 use Rattle.tree_equations.specs.Answers.{TooMany, itself}
 use Rattle.tree_equations.specs.Index.{to_target}
 use Rattle.tree_equations.specs.Blocks.{blocks_in}

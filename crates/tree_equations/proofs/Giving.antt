@@ -25,8 +25,8 @@ use Rattle.eq_build.proofs.Same.{builds_same}
 use Rattle.eq_build.proofs.Stopping.{stops_up, passed_on}
 use Rattle.gts_core.specs.View.{numbered}
 use Rattle.gts_core.proofs.Numbering.{IsNumber, renames_numbered}
-use Rattle.table_steps.specs.Steps.{Reading, Threads, BuiltAssign, Builds_conditions, Builds_assign}
-use Rattle.table_steps.specs.Steps as t
+use Rattle.eq_build.specs.Steps.{Reading, Threads, BuiltAssign, Builds_conditions, Builds_assign}
+use Rattle.eq_build.specs.Steps as t
 use Rattle.tree_equations.specs.Answers.{TooMany, Gives, GivesOperand, GivesBuilt, Entries, row_in}
 use Rattle.tree_equations.proofs.Determined.{AreOne}
 

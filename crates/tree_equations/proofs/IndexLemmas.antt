@@ -18,7 +18,7 @@ use Rattle.gts_core.specs.declared.system.Variable.{Variable}
 use Rattle.gts_core.specs.declared.system.Assign.{Assign}
 use Rattle.gts_core.specs.declared.system.GtsParts.{GtsParts}
 use Rattle.flow_propagate.specs.Plan as plan
-use Rattle.table_steps.specs.Steps.{flows_from, AreBlocks}
+use Rattle.eq_build.specs.Steps.{flows_from, AreBlocks}
 use Rattle.tree_equations.specs.Index.{to_target, AreNumbersOf, AreByTarget, AreFlows, AreUnder}
 use Rattle.tree_equations.specs.Blocks.{StandAtPlaces, ArePlacedBlocks}
 

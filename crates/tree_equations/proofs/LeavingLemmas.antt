@@ -8,8 +8,8 @@ use Rattle.gts_core.specs.View.{net_of, variables_from, variable_of, assign_of}
 use Rattle.gts_core.specs.declared.system.Variable.{Variable}
 use Rattle.gts_core.specs.declared.system.Assign.{Assign}
 use Rattle.gts_core.specs.declared.system.GtsParts.{GtsParts}
-use Rattle.table_steps.specs.Steps.{MayLeave, MayLeaveOf, AllMayLeave}
-use Rattle.table_steps.specs.Steps as t
+use Rattle.eq_build.specs.Steps.{MayLeave, MayLeaveOf, AllMayLeave}
+use Rattle.eq_build.specs.Steps as t
 use Rattle.tree_equations.specs.Index.{to_target, IsLeaving, AreLeaving, AddsLeaving}
 use Rattle.tree_equations.specs.Leaving.{MayGiveOutside}
 use Rattle.tree_equations.proofs.Flowing.{targets_seen}

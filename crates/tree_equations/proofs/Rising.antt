@@ -9,8 +9,8 @@ use Rattle.eq_core.specs.ValuesInside.{GainsGates}
 use Rattle.eq_core.proofs.Telling.{grows_self, grows_on, all_more}
 use Rattle.eq_build.specs.Entries.{Entry}
 use Rattle.eq_build.proofs.Growing.{longer_on, builds_more, terms_more, one_more}
-use Rattle.table_steps.specs.Steps.{Reading, Threads, BuiltAssign, Builds_conditions, Builds_assign, Gives_target, RoundOf, Rounds, All_rounds, Sees_two, Sees_outside, Totals_of, Sees_broken, Has_modes, given_terms, outside_terms, broken_terms, together, pairs_in, opposites, as_terms, entered, not_left}
-use Rattle.table_steps.specs.Steps as t
+use Rattle.eq_build.specs.Steps.{Reading, Threads, BuiltAssign, Builds_conditions, Builds_assign, Gives_target, RoundOf, Rounds, All_rounds, Sees_two, Sees_outside, Totals_of, Sees_broken, Has_modes, given_terms, outside_terms, broken_terms, together, pairs_in, opposites, as_terms, entered, not_left}
+use Rattle.eq_build.specs.Steps as t
 
 module _ {A B : Type 0} (R : List Gate → A → B → List Gate → Type 0)
     (more : (g h : List Gate) (x : A) (y : B) → R g x y h → GainsGates g h) where

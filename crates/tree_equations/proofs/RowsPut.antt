@@ -5,7 +5,7 @@ use Rattle.std.proofs.lemmas.List.{take_more, map-append, length_push, length-ma
 use Rattle.ar_base.specs.Lists.{Stands}
 use Rattle.eq_build.specs.Entries as e
 use Rattle.eq_build.specs.Views.{lists_in, row_at}
-use Rattle.table_steps.specs.Steps.{Reading, updated}
+use Rattle.eq_build.specs.Steps.{Reading, updated}
 use Rattle.tree_equations.specs.Answers.{Entries, row_in}
 
 -- one row put

@@ -16,7 +16,7 @@ use Rattle.eq_build.specs.Entries.{Group, with_terms, with_term}
 use Rattle.eq_build.specs.Views.{entry_of, entries_in, operands_in, terms_in}
 use Rattle.eq_build.specs.declared.entries.Entry.{Entry}
 use Rattle.eq_build.proofs.EntriesTell.{is_so}
-use Rattle.table_steps.specs.Steps.{others_with, outside_terms, given_terms}
+use Rattle.eq_build.specs.Steps.{others_with, outside_terms, given_terms}
 
 abbrev Terms : Type 0
 Terms = Vec sign.Operand Global

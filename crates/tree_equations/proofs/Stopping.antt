@@ -4,8 +4,8 @@ use Rattle.ar_meaning.specs.Systems as s
 use Rattle.eq_core.specs.Gates.{Operand, Gate}
 use Rattle.eq_build.specs.BuildsInside.{most_gates}
 use Rattle.eq_build.proofs.Growing.{longer_on, one_more}
-use Rattle.table_steps.specs.Steps.{Reading, Sees_outside, Sees_broken, outside_terms, broken_terms}
-use Rattle.table_steps.specs.Steps as t
+use Rattle.eq_build.specs.Steps.{Reading, Sees_outside, Sees_broken, outside_terms, broken_terms}
+use Rattle.eq_build.specs.Steps as t
 use Rattle.tree_equations.specs.Answers.{TooMany}
 use Rattle.tree_equations.proofs.Flowing.{Assigned}
 

@@ -13,7 +13,7 @@ use Rattle.gts_core.specs.declared.system.Observer.{Observer}
 use Rattle.gts_core.specs.declared.system.GtsParts.{GtsParts}
 use Rattle.mode_trees.specs.Views.{number_in}
 use Rattle.mode_trees.specs.declared.forests.Forest.{Forest}
-use Rattle.table_steps.specs.Table.{IsTable}
+use Rattle.eq_build.specs.Table.{IsTable}
 use Rattle.tree_equations.specs.Answers.{plain, trees_in}
 use Rattle.tree_equations.specs.Gives.{AtObserver, IsTableOfParts, NeedsTooMany}
 use Rattle.tree_equations.proofs.AnyWays.{table_any}

@@ -4,8 +4,8 @@ use Rattle.eq_core.specs.Gates.{Operand, Gate}
 use Rattle.eq_build.specs.Views.{row_at}
 use Rattle.gts_core.specs.View.{net_of}
 use Rattle.gts_core.specs.declared.system.GtsParts.{GtsParts}
-use Rattle.table_steps.specs.Steps.{Threads, Sees_two, flows_from}
-use Rattle.table_steps.specs.Table.{flow_numbers}
+use Rattle.eq_build.specs.Steps.{Threads, Sees_two, flows_from}
+use Rattle.eq_build.specs.Table.{flow_numbers}
 use Rattle.tree_equations.specs.Answers.{Entries, itself}
 use Rattle.tree_equations.specs.Index.{AreFlows}
 use Rattle.tree_equations.proofs.Flowing.{itself_all}

@@ -18,7 +18,7 @@ use Rattle.gts_core.specs.declared.system.Variable.{Variable}
 use Rattle.mode_trees.specs.Views.{edge_row, tree_of}
 use Rattle.mode_trees.specs.declared.forests.Edge.{Edge}
 use Rattle.mode_trees.specs.declared.forests.ModeTree.{ModeTree}
-use Rattle.table_steps.specs.Steps.{Reading, Threads, Builds_assign}
+use Rattle.eq_build.specs.Steps.{Reading, Threads, Builds_assign}
 use Rattle.tree_equations.specs.declared.assigning.BuiltAssign.{BuiltAssign}
 
 -- whatever comes out, there are more gates than a table may have

@@ -9,7 +9,7 @@ use Rattle.gts_core.specs.declared.system.Observer.{Observer}
 use Rattle.gts_core.specs.declared.system.GtsParts.{GtsParts}
 use Rattle.mode_trees.specs.Views.{trees_of, number_in}
 use Rattle.mode_trees.specs.declared.forests.Forest.{Forest}
-use Rattle.table_steps.specs.Table.{IsTable}
+use Rattle.eq_build.specs.Table.{IsTable}
 
 -- P holds of the expression of the observer of this number, if there is one
 abbrev pub AtObserver : Option Observer → (Expr ℕ → Type 0) → Type 0

@@ -8,7 +8,7 @@ use Rattle.gts_core.specs.View.{net_of, variable_of, assign_of}
 use Rattle.gts_core.specs.declared.system.Variable.{Variable}
 use Rattle.gts_core.specs.declared.system.Assign.{Assign}
 use Rattle.gts_core.specs.declared.system.GtsParts.{GtsParts}
-use Rattle.table_steps.specs.Steps.{flows_from, AllMayLeave, MayLeaveOf}
+use Rattle.eq_build.specs.Steps.{flows_from, AllMayLeave, MayLeaveOf}
 use Rattle.tree_equations.specs.declared.index.Index.{Index}
 
 -- the assignments to a variable

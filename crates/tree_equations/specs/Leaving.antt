@@ -3,7 +3,7 @@ use Rattle.gts_core.specs.View.{net_of, variable_of, assign_of}
 use Rattle.gts_core.specs.declared.system.Assign.{Assign}
 use Rattle.gts_core.specs.declared.system.Variable.{Variable}
 use Rattle.gts_core.specs.declared.system.GtsParts.{GtsParts}
-use Rattle.table_steps.specs.Steps.{MayLeave}
+use Rattle.eq_build.specs.Steps.{MayLeave}
 
 -- the assignment may give a value outside the domain of this variable
 abbrev pub MayGiveOutside : Variable → Assign → GtsParts → Type 0

@@ -10,8 +10,8 @@ use Rattle.eq_build.specs.Entries.{Entry}
 use Rattle.eq_build.specs.Views.{row_at}
 use Rattle.eq_build.specs.declared.entries.BuildFault.{BuildFault}
 use Rattle.tree_equations.specs.Answers.{Gives, Entries}
-use Rattle.table_steps.specs.Steps.{Reading, Threads, Sees_two, AllMayLeave, Sees_outside, Totals_of, Sees_broken, updated, flows_from}
-use Rattle.table_steps.specs.Table.{flow_numbers}
+use Rattle.eq_build.specs.Steps.{Reading, Threads, Sees_two, AllMayLeave, Sees_outside, Totals_of, Sees_broken, updated, flows_from}
+use Rattle.eq_build.specs.Table.{flow_numbers}
 
 -- from known values to total ones, and the operand of conflicts
 pub record GivesConflicts (net : Net ℕ) (known : Reading) (g : List Gate) (total : Reading) (conflict : Operand)

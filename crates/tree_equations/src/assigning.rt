@@ -7,7 +7,7 @@ ghost use Rattle.eq_build.specs.Entries.{with_terms};
 ghost use Rattle.eq_build.specs.BuildsInside.{most_gates};
 ghost use Rattle.eq_build.specs.Views.{entries_in, lists_in, operands_in, gates_in, row_at};
 ghost use Rattle.gts_core.specs.View.{numbered, condition_of, assign_of};
-ghost use Rattle.table_steps.specs.Steps.{as_terms, together, given_terms, Builds_conditions, Gives_target};
+ghost use Rattle.eq_build.specs.Steps.{as_terms, together, given_terms, Builds_conditions, Gives_target};
 ghost use Rattle.tree_equations.specs.Answers.{Gives, GivesBuilt, GivesAssign, row_in, signs_in};
 
 use ar_base::{Memory, VarId};

@@ -5,7 +5,7 @@ ghost use Rattle.ar_base.specs.Lists.{Stands};
 ghost use Rattle.eq_build.specs.BuildsInside.{most_gates};
 ghost use Rattle.eq_build.specs.Views.{entries_in, lists_in, row_at};
 ghost use Rattle.gts_core.specs.View.{variables_from};
-ghost use Rattle.table_steps.specs.Steps.{first_reading, in_order};
+ghost use Rattle.eq_build.specs.Steps.{first_reading, in_order};
 ghost use Rattle.tree_equations.specs.Answers.{Entries, trees_in};
 
 use crate::assigning::put_all;

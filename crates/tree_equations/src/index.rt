@@ -6,7 +6,7 @@ ghost use Rattle.gts_core.specs.Sound.{IsSound};
 ghost use Rattle.gts_core.specs.View.{variables_from};
 ghost use Rattle.flow_blocks.specs.Bits.{row_of};
 ghost use Rattle.flow_blocks.specs.Table.{members_of};
-ghost use Rattle.table_steps.specs.Steps.{flows_from};
+ghost use Rattle.eq_build.specs.Steps.{flows_from};
 ghost use Rattle.tree_equations.specs.Index.{IsIndex, AreByTarget, AreFlows, AreUnder};
 ghost use Rattle.tree_equations.specs.Blocks.{blocks_in, StandAtPlaces, ArePlacedBlocks};
 

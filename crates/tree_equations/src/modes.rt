@@ -6,7 +6,7 @@ ghost use Rattle.eq_core.specs.Views.{operand_of};
 ghost use Rattle.eq_build.specs.Entries.{with_entry};
 ghost use Rattle.eq_build.specs.BuildsInside.{most_gates};
 ghost use Rattle.eq_build.specs.Views.{entries_in, operands_in, gates_in, MakesEntries, MakesOperand};
-ghost use Rattle.table_steps.specs.Steps.{not_left, modes_of, Has_modes};
+ghost use Rattle.eq_build.specs.Steps.{not_left, modes_of, Has_modes};
 ghost use Rattle.tree_equations.specs.Answers.{GivesEach, rows_in, tree_in, edges_in};
 
 use ar_base::Memory;

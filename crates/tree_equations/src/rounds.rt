@@ -8,7 +8,7 @@ ghost use Rattle.eq_build.specs.Views.{gates_in, row_at};
 ghost use Rattle.gts_core.specs.Sound.{IsSound};
 ghost use Rattle.gts_core.specs.View.{net_of, assign_of};
 ghost use Rattle.gts_core.specs.declared.system.Assign.{Assign as FlatAssign};
-ghost use Rattle.table_steps.specs.Steps.{Threads, Gives_target, RoundOf, Rounds, All_rounds};
+ghost use Rattle.eq_build.specs.Steps.{Threads, Gives_target, RoundOf, Rounds, All_rounds};
 ghost use Rattle.tree_equations.specs.Answers.{Gives, GivesEach, RoundsLeadTo, row_in, rows_in, itself};
 ghost use Rattle.tree_equations.specs.Blocks.{blocks_in};
 ghost use Rattle.tree_equations.specs.Index.{IsIndex, AreNumbersOf, AreUnder};
@@ -17,11 +17,10 @@ use crate::assigning::{given, together};
 use crate::index::Index;
 use crate::rows::{are_rows, put_rows};
 use domains::Domain;
-use eq_build::{BuildFault, Entry};
+use eq_build::{BuildFault, Entry, needs_round};
 use eq_core::Gate;
 use gts_core::{Assign, GtsParts};
 use std::alloc::Global;
-use table_steps::needs_round;
 
 // The blocks in order, each with as many rounds as it has flows: the rows are then what the flows are known to be.
 pub(crate) fn all_rounds(

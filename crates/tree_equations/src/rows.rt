@@ -2,7 +2,7 @@
 
 ghost use Rattle.std.specs.Prelude.{◌≡◌, true, length};
 ghost use Rattle.eq_build.specs.Views.{lists_in, row_at};
-ghost use Rattle.table_steps.specs.Steps.{updated};
+ghost use Rattle.eq_build.specs.Steps.{updated};
 ghost use Rattle.tree_equations.specs.Index.{AreUnder};
 
 use eq_build::Entry;

@@ -9,7 +9,7 @@ ghost use Rattle.eq_build.specs.BuildsInside.{most_gates};
 ghost use Rattle.eq_build.specs.Views.{entry_of, entries_in, operands_in, terms_in, gates_in, row_at};
 ghost use Rattle.gts_core.specs.Sound.{IsSound};
 ghost use Rattle.gts_core.specs.View.{variable_of, assign_of};
-ghost use Rattle.table_steps.specs.Steps.{Threads, Sees_two, Sees_outside, Sees_broken, pairs_in, others_with, outside_terms, broken_terms};
+ghost use Rattle.eq_build.specs.Steps.{Threads, Sees_two, Sees_outside, Sees_broken, pairs_in, others_with, outside_terms, broken_terms};
 ghost use Rattle.tree_equations.specs.Answers.{Gives, GivesEach, GivesOperand, signs_in, row_in, itself};
 ghost use Rattle.tree_equations.specs.Index.{AreUnder, IsLeaving};
 

@@ -4,7 +4,7 @@ ghost use Rattle.std.specs.Prelude.{◌≡◌, ◌≤◌, ◌<◌, IfOk, List, l
 ghost use Rattle.eq_build.specs.BuildsInside.{most_gates};
 ghost use Rattle.eq_build.specs.Views.{entries_in, operands_in, gates_in, row_at, MakesEntries};
 ghost use Rattle.ar_meaning.specs.Systems.{Variable as SystemVariable};
-ghost use Rattle.table_steps.specs.Steps.{Threads, Totals_of, total_of, opposites, flows_from};
+ghost use Rattle.eq_build.specs.Steps.{Threads, Totals_of, total_of, opposites, flows_from};
 ghost use Rattle.gts_core.specs.View.{variables_from};
 ghost use Rattle.tree_equations.specs.Answers.{Gives, rows_in};
 ghost use Rattle.tree_equations.specs.Index.{AreFlows};

@@ -21,7 +21,7 @@ use Rattle.gts_core.specs.declared.system.WayBody.TheVariants as body
 use Rattle.gts_core.specs.declared.system.GtsParts.{GtsParts}
 use Rattle.gts_core.specs.Readings.{is_met}
 use Rattle.gts_core.specs.Readings.{IsTotal}
-use Rattle.part_flags.specs.Parts.{flag_at, musts_by, some_by, has_must_in}
+use Rattle.way_flags.specs.Parts.{flag_at, musts_by, some_by, has_must_in}
 use Rattle.way_flags.specs.Ways.{parts_of, can_by}
 use Rattle.gts_core.proofs.Tests.{and_answer, or_answer, turned_answer}
 use Rattle.ar_base.proofs.Standing.{one_first, one_rest}

@@ -12,7 +12,7 @@ use Rattle.way_flags.specs.Ways.{parts_of, IsWayOrder}
 use Rattle.way_flags.specs.Renewing.{IsPlaceWith}
 use Rattle.way_flags.specs.Index.{IsPlacedAt, WayGuardNames, AreGuards, IsWholeOf, AreAbove, AddsGuards, IsPartPair, AddsParts, ArePlacedUpTo, IsWayIndex}
 use Rattle.way_flags.specs.declared.index.WayIndex.{WayIndex}
-use Rattle.number_pairs.specs.Pairing.{IsPaired}
+use Rattle.ar_base.specs.Pairing.{IsPaired}
 
 module _ (p : GtsParts) where
   pub guards_start : AreGuards p 0 []

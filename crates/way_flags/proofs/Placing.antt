@@ -8,7 +8,7 @@ use Rattle.gts_core.specs.declared.system.Way.{Way}
 use Rattle.gts_core.specs.declared.system.WayBody.{WayBody}
 use Rattle.gts_core.specs.declared.system.WayBody.TheVariants.{Local, Sync}
 use Rattle.gts_core.specs.declared.system.GtsParts.{GtsParts}
-use Rattle.part_flags.specs.Parts.{are_set, flag_at}
+use Rattle.way_flags.specs.Parts.{are_set, flag_at}
 use Rattle.way_flags.specs.Ways.{parts_of, WayHasPart, IsWayOrder, IsPlacing, KeepsMarks, ArePartsPlaced, are_placed}
 use Rattle.way_flags.proofs.Lists.{flag_same, flag_kept, flag_from, one_more}
 

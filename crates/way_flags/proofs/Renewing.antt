@@ -15,7 +15,7 @@ use Rattle.gts_core.specs.Sound.{IsSound}
 use Rattle.gts_core.specs.declared.system.Way.{Way}
 use Rattle.gts_core.specs.declared.system.GtsParts.{GtsParts}
 use Rattle.gts_core.specs.Readings.{IsTotal}
-use Rattle.part_flags.specs.Parts.{flag_at}
+use Rattle.way_flags.specs.Parts.{flag_at}
 use Rattle.way_flags.specs.Ways.{parts_of, IsWayOrder, AreFlags, can_by}
 use Rattle.way_flags.proofs.Lists.{flag_same, flag_other}
 use Rattle.way_flags.proofs.Firing.{can_answer}

@@ -20,7 +20,7 @@ use Rattle.typed_expr.specs.declared.expr.ValueKind.TheVariants as kind
 use Rattle.ar_meaning.specs.Facts.{HasValue}
 use Rattle.ar_meaning.specs.Ways.{Can}
 use Rattle.ar_meaning.proofs.Found.{same_answer}
-use Rattle.number_pairs.specs.Pairing.{IsPaired}
+use Rattle.ar_base.specs.Pairing.{IsPaired}
 use Rattle.gts_core.specs.View.{net_of}
 use Rattle.gts_core.specs.Sound.{IsSound}
 use Rattle.gts_core.specs.Readings.{IsTotal, valuation_at, is_met, is_truth}
@@ -28,7 +28,7 @@ use Rattle.gts_core.specs.declared.system.Way.{Way}
 use Rattle.gts_core.specs.declared.system.WayBody.{WayBody}
 use Rattle.gts_core.specs.declared.system.WayBody.TheVariants.{Local, Sync}
 use Rattle.gts_core.specs.declared.system.GtsParts.{GtsParts}
-use Rattle.part_flags.specs.Parts.{flag_at, musts_by, some_by, has_must_in}
+use Rattle.way_flags.specs.Parts.{flag_at, musts_by, some_by, has_must_in}
 use Rattle.way_flags.specs.Ways.{parts_of, WayHasPart, AreFlags, can_by}
 use Rattle.way_flags.specs.Index.{WayGuardNames, IsWayIndex, IsWholeOf}
 use Rattle.way_flags.specs.declared.index.WayIndex.{WayIndex}

@@ -20,7 +20,7 @@ use Rattle.gts_core.proofs.Tests.{answer_true}
 use Rattle.gts_core.proofs.Viewing.{variable_there, variable_back}
 use Rattle.flow_propagate.specs.NewValues.{AreNewValues, IsNewValue, written}
 use Rattle.flow_propagate.proofs.Written.{written_long}
-use Rattle.part_flags.specs.Parts.{flag_at}
+use Rattle.way_flags.specs.Parts.{flag_at}
 use Rattle.way_flags.specs.Ways.{AreFlags}
 use Rattle.way_flags.specs.Taking.{AreTakers}
 use Rattle.way_flags.specs.Effects.{taken_effects, EffectGives}

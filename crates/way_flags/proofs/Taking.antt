@@ -19,7 +19,7 @@ use Rattle.gts_core.specs.declared.system.Way.{Way}
 use Rattle.gts_core.specs.declared.system.WayBody.{WayBody}
 use Rattle.gts_core.specs.declared.system.WayBody.TheVariants as body
 use Rattle.gts_core.specs.declared.system.GtsParts.{GtsParts}
-use Rattle.part_flags.specs.Parts.{flag_at}
+use Rattle.way_flags.specs.Parts.{flag_at}
 use Rattle.way_flags.specs.Ways.{parts_of}
 use Rattle.way_flags.specs.Taking.{takes_part, TakesPart}
 use Rattle.way_flags.specs.Taking as takes

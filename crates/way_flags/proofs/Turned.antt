@@ -1,7 +1,7 @@
 -- Flags that are turned and turned back.
 use Rattle.std.proofs.Common.{◌≡◌, ℕ, zero, suc, Bool, true, false, not, List, [], ◌∷◌, ◌++◌, set, refl, sym, ap, ◌∙◌}
 use Rattle.ar_base.specs.Numbers.{WayId}
-use Rattle.part_flags.specs.Parts.{flag_at}
+use Rattle.way_flags.specs.Parts.{flag_at}
 use Rattle.way_flags.specs.Turning.{flags_turned}
 
 -- the flags with one turned round

@@ -7,3 +7,4 @@ pub mod Renewing
 pub mod Taking
 pub mod Turning
 pub mod Ways
+pub mod Parts

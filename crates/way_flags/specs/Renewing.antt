@@ -8,7 +8,7 @@ use Rattle.domains.specs.declared.Value.{Value}
 use Rattle.gts_core.specs.Readings.{IsTotal, valuation_at}
 use Rattle.gts_core.specs.declared.system.Way.{Way}
 use Rattle.gts_core.specs.declared.system.GtsParts.{GtsParts}
-use Rattle.part_flags.specs.Parts.{flag_at}
+use Rattle.way_flags.specs.Parts.{flag_at}
 use Rattle.way_flags.specs.Ways.{can_by, AreFlags}
 use Rattle.way_flags.specs.Turning.{flags_turned, AreWaysOfSystem}
 

@@ -3,7 +3,7 @@ use Rattle.std.specs.Prelude.{◌≡◌, ℕ, ◌<◌, Bool, not, List, [], ◌�
 use Rattle.ar_base.specs.Lists.{Stands, IsOneOf}
 use Rattle.ar_base.specs.Numbers.{WayId}
 use Rattle.gts_core.specs.declared.system.GtsParts.{GtsParts}
-use Rattle.part_flags.specs.Parts.{flag_at}
+use Rattle.way_flags.specs.Parts.{flag_at}
 
 -- the flags with those of these ways turned round, one after the other
 abbrev pub flags_turned : List Bool → List WayId → List Bool

@@ -13,7 +13,7 @@ use Rattle.gts_core.specs.declared.system.WayBody.{WayBody}
 use Rattle.gts_core.specs.declared.system.WayBody.TheVariants.{Local, Sync}
 use Rattle.gts_core.specs.declared.system.GtsParts.{GtsParts}
 use Rattle.gts_core.specs.Readings.{is_met}
-use Rattle.part_flags.specs.Parts.{are_set, flag_at, has_must_in, musts_by, some_by}
+use Rattle.way_flags.specs.Parts.{are_set, flag_at, has_must_in, musts_by, some_by}
 
 -- the parts of a way, with their marks; a local way has none
 abbrev pub parts_of : WayBody → List (Bool × WayId)

@@ -5,10 +5,10 @@ ghost use Rattle.gts_core.specs.Sound.{IsSound};
 ghost use Rattle.gts_core.specs.Readings.{IsTotal};
 ghost use Rattle.way_flags.specs.Ways.{can_by, IsWayOrder, AreFlags};
 
+use crate::{has_must, musts_can, some_can};
 use ar_base::{Memory, WayId};
 use domains::Value;
 use gts_core::{GtsParts, WayBody, is_met};
-use part_flags::{has_must, musts_can, some_can};
 use std::alloc::Global;
 
 /// So many flags, none of them set.

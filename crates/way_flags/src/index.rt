@@ -6,10 +6,9 @@ ghost use Rattle.way_flags.specs.Ways.{IsWayOrder};
 ghost use Rattle.way_flags.specs.Index.{IsWayIndex, AreGuards, AreAbove, AddsParts, ArePlacedUpTo};
 
 use crate::order::way_order;
-use ar_base::{Memory, WayId};
+use ar_base::{IndexedPairs, Memory, WayId, index_pairs};
 use flow_propagate::add_named_pairs;
 use gts_core::{GtsParts, WayBody};
-use number_pairs::{IndexedPairs, index_pairs};
 use std::alloc::Global;
 
 /// The ways of a system in an order, and which of them have to be looked at again where something changed.

@@ -10,12 +10,12 @@ ghost use Rattle.way_flags.specs.Renewing.{WereFlags, WaitsAt, IsSettledBut, Are
 
 use crate::flags::{can_fire, set_all, unset};
 use crate::index::WayIndex;
+use crate::is_set;
 use crate::turning::{turn, turn_one};
 use crate::waiting::{add_above, first_waiting, take_place};
 use ar_base::{Memory, VarId, WayId};
 use domains::Value;
 use gts_core::GtsParts;
-use part_flags::is_set;
 use std::alloc::Global;
 use std::collections::BTreeSet;
 

@@ -7,14 +7,14 @@ ghost use Rattle.ar_base.specs.Lists.{Stands};
 ghost use Rattle.gts_core.specs.Sound.{IsSound};
 ghost use Rattle.gts_core.specs.declared.system.Way.{Way as Ways};
 ghost use Rattle.gts_core.specs.View.{IsWayAt, way_bodies, part_of};
-ghost use Rattle.part_flags.specs.Parts.{are_set, flag_at};
+ghost use Rattle.way_flags.specs.Parts.{are_set, flag_at};
 ghost use Rattle.way_flags.specs.Ways.{IsWayOrder, IsPlacing, are_placed, KeepsMarks};
 
 use crate::flags::unset;
+use crate::is_set;
 use crate::sequence::parts_first;
 use ar_base::{Memory, WayId};
 use gts_core::{GtsParts, WayBody};
-use part_flags::is_set;
 use std::alloc::Global;
 
 /// Ways that were put in order, and for each way whether it is among them.

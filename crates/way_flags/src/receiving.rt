@@ -8,7 +8,7 @@ ghost use Rattle.gts_core.specs.Sound.{IsSound};
 ghost use Rattle.gts_core.specs.Readings.{IsTotal};
 ghost use Rattle.flow_propagate.specs.Answers.{IsState};
 ghost use Rattle.flow_propagate.specs.NewValues.{AreNewValues, written};
-ghost use Rattle.part_flags.specs.Parts.{flag_at};
+ghost use Rattle.way_flags.specs.Parts.{flag_at};
 ghost use Rattle.way_flags.specs.Ways.{AreFlags};
 ghost use Rattle.way_flags.specs.Receiving.{AddsOne, AreOneEach, AreToState, ClashOrAgree, IsLeastClash, IsLeastLeaving, LastOrOther};
 ghost use Rattle.way_flags.specs.Ready.{AreReceived, IsReadyWay, IsReceiveFault};

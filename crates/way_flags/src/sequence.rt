@@ -4,9 +4,9 @@
 //! by one find their parts there already.
 
 use crate::flags::unset;
+use crate::is_set;
 use ar_base::{Memory, WayId};
 use gts_core::{GtsParts, WayBody};
-use part_flags::is_set;
 use std::alloc::Global;
 
 // A way whose parts come first, and how many of them were looked at.

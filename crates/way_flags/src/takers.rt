@@ -7,9 +7,9 @@ ghost use Rattle.gts_core.specs.Sound.{IsSound};
 ghost use Rattle.way_flags.specs.Taking.{AreTakers, takes_part};
 ghost use Rattle.way_flags.specs.Meeting.{AreMet, IsIn, MeetsWays, MeetsParts};
 
+use crate::is_set;
 use ar_base::{Memory, WayId};
 use gts_core::{GtsParts, WayBody};
-use part_flags::is_set;
 use std::alloc::Global;
 use std::collections::BTreeSet;
 

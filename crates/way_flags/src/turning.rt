@@ -1,7 +1,7 @@
 //! Flags that are turned.
 
 ghost use Rattle.std.specs.Prelude.{◌≡◌, not, slice_set};
-ghost use Rattle.part_flags.specs.Parts.{flag_at};
+ghost use Rattle.way_flags.specs.Parts.{flag_at};
 ghost use Rattle.way_flags.specs.Turning.{flags_turned};
 
 use ar_base::WayId;

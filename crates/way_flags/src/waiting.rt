@@ -3,14 +3,13 @@
 ghost use Rattle.std.specs.Prelude.{◌≡◌, ◌≢◌, ◌⊎◌, ◌↔◌, ◌<◌, ◌∷◌, ℕ, length, map, IfOk, OnOk, IfSome, IfNone};
 ghost use Rattle.ar_base.specs.Lists.{IsOneOf};
 ghost use Rattle.ar_base.specs.Numbers.{VarId as Variables};
-ghost use Rattle.number_pairs.specs.Pairing.{IsPaired};
+ghost use Rattle.ar_base.specs.Pairing.{IsPaired};
 ghost use Rattle.gts_core.specs.declared.system.GtsParts.{GtsParts as Parts};
 ghost use Rattle.way_flags.specs.Index.{IsWayIndex};
 ghost use Rattle.way_flags.specs.Renewing.{WaitsAt, IsPlaceWith};
 
 use crate::index::WayIndex;
-use ar_base::{Memory, VarId, WayId};
-use number_pairs::paired_by;
+use ar_base::{Memory, VarId, WayId, paired_by};
 use std::alloc::Global;
 use std::collections::BTreeSet;
 

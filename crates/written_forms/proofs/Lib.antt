@@ -13,3 +13,4 @@ pub mod RuleForms
 pub mod Shrinking
 pub mod SomeOperands
 pub mod TwoKinds
+mod Pairs

@@ -10,7 +10,7 @@ use Rattle.domains.specs.declared.Value.{Value}
 use Rattle.typed_expr.specs.declared.expr.Expr.{Expr}
 use Rattle.gts_core.specs.declared.bound.Act.{Act, out-Act}
 use Rattle.gts_core.specs.declared.bound.Act.TheOpen as act
-use Rattle.two_way_assignments.specs.Assigning.{SetsBoth}
+use Rattle.written_forms.specs.Assigning.{SetsBoth}
 use Rattle.written_forms.specs.Translating.{BecomesBy}
 use Rattle.written_forms.specs.declared.naming.Leaf.{Leaf}
 use Rattle.written_forms.specs.declared.naming.Leaf.TheVariants as leaf

@@ -10,3 +10,4 @@ pub mod Translating
 pub mod Relations
 pub mod Wrong
 pub mod WrongInside
+pub mod Assigning

@@ -5,12 +5,11 @@ ghost use Rattle.ar_syntax.specs.declared.instructions.Instr.{out-Instr};
 ghost use Rattle.ar_syntax.specs.declared.instructions.Instr.TheOpen.{Assign as AssignForm, Tie as TieForm};
 ghost use Rattle.written_forms.specs.Acting.{ActsAs, All_act, IsConditional};
 
-use crate::{Leaf, Leaves, translated};
+use crate::{Leaf, Leaves, both_ways, translated};
 use ar_base::Memory;
 use ar_syntax::{Instr, Path, RawExpr};
 use gts_core::Act;
 use std::alloc::Global;
-use two_way_assignments::both_ways;
 
 /// The bound instruction that a written one becomes, where its paths stand for these variables and
 /// values.

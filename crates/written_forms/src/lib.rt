@@ -12,6 +12,7 @@ mod naming;
 mod parts;
 mod rules;
 mod translating;
+mod two_way_assignments;
 
 pub use acting::acted;
 pub use checks::{ActionRule, AssertionRule, KindRule, NameRule};
@@ -25,3 +26,4 @@ pub use rules::{
     Targets, misnamed_itself, misplaced_in_action, misplaced_in_assertion, mistyped_itself,
 };
 pub use translating::translated;
+pub use two_way_assignments::both_ways;

@@ -6,9 +6,9 @@ use Rattle.std.proofs.Math.Seq.{take-append_seam}
 use Rattle.std.proofs.lemmas.Option.{slice_get-get_or, slice_get_within}
 use Rattle.std.proofs.lemmas.List.Elements.{All-nil, All-push, All-from_get_or}
 use Rattle.ar_base.proofs.Standing.{stands_some}
-use Rattle.zdd_families.specs.Families.{Family}
-use Rattle.zdd_families.specs.FamiliesInside.{node}
-use Rattle.zdd_families.specs.SectionsInside.{IsMade}
+use Rattle.zdd_nodes.specs.Families.{Family}
+use Rattle.zdd_nodes.specs.FamiliesInside.{node}
+use Rattle.zdd_nodes.specs.SectionsInside.{IsMade}
 use Rattle.zdd_nodes.specs.Nodes.{NodeId, Stored, at, family, IsFamilyNumber, IsNode, IsSoundStore, IsFullFor, Draws, HasNoRoom, MakesFamily}
 use Rattle.zdd_nodes.specs.Nodes.MakesFamily.{added}
 use Rattle.zdd_nodes.specs.Kept.{families_of, node_eq, IsStore}

@@ -1,7 +1,7 @@
 -- A family other than the empty one and that of the empty set is a node in one way only.
 use Rattle.std.proofs.Common.{◌≡◌, ◌≢◌, ℕ, [], ◌∷◌, refl, sym, ap, ◌∙◌, subst, lt_irrefl}
-use Rattle.zdd_families.specs.Families.{Family}
-use Rattle.zdd_families.specs.FamiliesInside.{node, IsAbove}
+use Rattle.zdd_nodes.specs.Families.{Family}
+use Rattle.zdd_nodes.specs.FamiliesInside.{node, IsAbove}
 
 -- the two halves of a node are those of no other
 split_same : (v : ℕ) (hi ki lo ko : Family) → IsAbove v lo → IsAbove v ko → node v lo hi ≡ node v ko ki

@@ -1,8 +1,8 @@
 -- A call that makes a family by its two halves: first the lower half, then the upper one, then the node of both.
 use Rattle.std.proofs.Common.{◌≡◌, ℕ, Result, Ok, sym, ap₂, ◌∙◌, subst}
-use Rattle.zdd_families.specs.Families.{Family}
-use Rattle.zdd_families.specs.FamiliesInside.{node, IsAbove}
-use Rattle.zdd_families.specs.SectionsInside.{IsMade}
+use Rattle.zdd_nodes.specs.Families.{Family}
+use Rattle.zdd_nodes.specs.FamiliesInside.{node, IsAbove}
+use Rattle.zdd_nodes.specs.SectionsInside.{IsMade}
 use Rattle.zdd_nodes.specs.Nodes.{NodeId, Stored, family, IsFamilyNumber, Grows, Draws}
 use Rattle.zdd_nodes.specs.declared.NodeFault.{NodeFault}
 use Rattle.zdd_nodes.proofs.Growing.{Grows-then, kept, still, Draws-weaker, Draws-after}

@@ -7,3 +7,15 @@ pub mod Limits
 pub mod Stored
 pub mod Calls
 pub mod Sectioned
+pub mod Ending
+pub mod Numbering
+pub mod Ascending
+pub mod Laws
+pub mod Sections
+pub mod Minimal
+pub mod Halves
+pub mod Gates
+pub mod Members
+pub mod OneList
+pub mod Filters
+pub mod Behind

@@ -4,9 +4,9 @@ use Rattle.std.proofs.Math.ListN.{get_or-append}
 use Rattle.std.proofs.Math.Seq.{get_or-append_seam}
 use Rattle.std.proofs.lemmas.Option.{slice_get-get_or}
 use Rattle.ar_base.specs.Lists.{AreDifferent}
-use Rattle.zdd_families.specs.Families.{Family}
-use Rattle.zdd_families.specs.FamiliesInside.{IsAbove}
-use Rattle.zdd_families.proofs.Laws.{IsAbove-node}
+use Rattle.zdd_nodes.specs.Families.{Family}
+use Rattle.zdd_nodes.specs.FamiliesInside.{IsAbove}
+use Rattle.zdd_nodes.proofs.Laws.{IsAbove-node}
 use Rattle.zdd_nodes.specs.Nodes.{all_families, at, IsNode}
 
 pub slice_get-push_cases : {A : Type 0} (xs : List A) (x : A) (k : ℕ) (m : A) → slice_get (xs ++ x ∷ []) k ≡ Some m

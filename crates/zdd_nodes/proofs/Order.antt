@@ -2,10 +2,10 @@
 use Rattle.std.proofs.Common.{◌≡◌, ℕ, ◌<◌, cond, eqb, List, [], ◌∷◌, map, refl, ap, ◌∙◌, lt-ltb, Less, Equal, Greater}
 use Rattle.std.specs.List.{AllByRecursion}
 use Rattle.std.specs.Ordering.{ordering_then}
-use Rattle.zdd_families.specs.Families.{Family}
-use Rattle.zdd_families.specs.FamiliesInside.{node, IsAbove, IsFamily, order}
-use Rattle.zdd_families.proofs.Ascending.{ascends_nil, ascends_cons}
-use Rattle.zdd_families.proofs.Laws.{each-append, order-with}
+use Rattle.zdd_nodes.specs.Families.{Family}
+use Rattle.zdd_nodes.specs.FamiliesInside.{node, IsAbove, IsFamily, order}
+use Rattle.zdd_nodes.proofs.Ascending.{ascends_nil, ascends_cons}
+use Rattle.zdd_nodes.proofs.Laws.{each-append, order-with}
 
 order_above : (v : ℕ) (s t : List ℕ) → AllByRecursion (λ x. v < x) t → order (v ∷ s) t ≡ Less
 order_above v s [] a = refl

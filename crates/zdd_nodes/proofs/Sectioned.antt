@@ -1,9 +1,9 @@
 -- Counted sections of stored families are stored.
 use Rattle.std.proofs.Common.{ℕ, zero, suc, ◌<◌, ◌≤◌, inl, inr, [], refl, sym, ◌∙◌, subst, arith}
-use Rattle.zdd_families.specs.Families.{Family}
-use Rattle.zdd_families.specs.Sections.{IsCounted}
-use Rattle.zdd_families.proofs.Sections.{counted_nil}
-use Rattle.zdd_families.proofs.Halves.{counted_halves, counted_unit}
+use Rattle.zdd_nodes.specs.Families.{Family}
+use Rattle.zdd_nodes.specs.Sections.{IsCounted}
+use Rattle.zdd_nodes.proofs.Sections.{counted_nil}
+use Rattle.zdd_nodes.proofs.Halves.{counted_halves, counted_unit}
 use Rattle.zdd_nodes.specs.Nodes.{Stored, family, IsFamilyNumber, IsSoundStore, IsStored}
 
 module _ (s : Stored) (sound : IsSoundStore s) where

@@ -6,8 +6,8 @@ use Rattle.std.proofs.lemmas.Option.{slice_get_within, slice_get-get_or, get_or_
 use Rattle.ar_base.specs.Lists.{AreDifferent}
 use Rattle.ar_base.specs.declared.numbers.Id.{Id}
 use Rattle.ar_base.proofs.Comparing.{id_from}
-use Rattle.zdd_families.specs.Families.{Family}
-use Rattle.zdd_families.specs.FamiliesInside.{node, IsAbove, IsFamily}
+use Rattle.zdd_nodes.specs.Families.{Family}
+use Rattle.zdd_nodes.specs.FamiliesInside.{node, IsAbove, IsFamily}
 use Rattle.zdd_nodes.specs.Nodes.{NodeId, all_families, at, IsNode}
 use Rattle.zdd_nodes.specs.Kept.{grown, families_of, node_eq, IsStore}
 use Rattle.zdd_nodes.specs.declared.Node.{Node}

@@ -2,8 +2,8 @@
 use Rattle.std.specs.Prelude.{◌≡◌, ℕ, ◌+◌, ◌-◌, ◌<◌, ◌≤◌, Bool, ◌&&◌, eqb, List, [], ◌∷◌, ◌++◌, length, slice_get, Some}
 use Rattle.std.specs.Map.{lookup}
 use Rattle.ar_base.specs.Lists.{AreDifferent}
-use Rattle.zdd_families.specs.Families.{Family}
-use Rattle.zdd_families.specs.FamiliesInside.{node, IsFamily}
+use Rattle.zdd_nodes.specs.Families.{Family}
+use Rattle.zdd_nodes.specs.FamiliesInside.{node, IsFamily}
 use Rattle.zdd_nodes.specs.Nodes.{NodeId, all_families, at, IsNode}
 use Rattle.zdd_nodes.specs.declared.Node.{Node}
 

@@ -1,3 +1,11 @@
 pub mod Nodes
 pub mod Kept
 pub mod Room
+pub mod Bounds
+pub mod Families
+pub mod FamiliesInside
+pub mod Sections
+pub mod SectionsInside
+pub mod OneList
+pub mod Worked
+pub mod Behind

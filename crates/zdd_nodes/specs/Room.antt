@@ -1,7 +1,7 @@
 -- What is stored in a sound store, and how many families fit its nodes.
 use Rattle.std.specs.Prelude.{ℕ, ◌<◌, length}
-use Rattle.zdd_families.specs.Families.{Family}
-use Rattle.zdd_families.specs.Sections.{IsCounted, IsMoreThan}
+use Rattle.zdd_nodes.specs.Families.{Family}
+use Rattle.zdd_nodes.specs.Sections.{IsCounted, IsMoreThan}
 use Rattle.zdd_nodes.specs.Nodes.{Stored, IsSoundStore, IsStored}
 
 -- each counted section of a stored family is stored

@@ -5,16 +5,21 @@
 //! added and for the sets of its lower half, so that it shares the nodes of both.
 #![tactic(auto)]
 
+mod bounds;
+mod zdd_families;
+
 ghost use Rattle.std.specs.Prelude.{◌≡◌, ◌+◌, ◌<◌, ◌≤◌, ◌↔◌, [], length, IfOk, OnErr, MatchOption};
-ghost use Rattle.zdd_families.specs.FamiliesInside.{node, IsAbove};
-ghost use Rattle.zdd_families.specs.SectionsInside.{IsMade};
+ghost use Rattle.zdd_nodes.specs.FamiliesInside.{node, IsAbove};
+ghost use Rattle.zdd_nodes.specs.SectionsInside.{IsMade};
 ghost use Rattle.zdd_nodes.specs.Nodes.{family, IsFamilyNumber, IsNode, IsSoundStore, Draws, HasNoRoom, MakesFamily};
 ghost use Rattle.zdd_nodes.specs.Room.{SectionsAreStored, EachTakesANode};
 
 use ar_base::{EventId, Id, Memory};
+pub use bounds::{below, both_end, first_with_event};
 use std::alloc::{AllocFailed, Global};
 use std::collections::HashMap;
 use std::marker::Model;
+pub use zdd_families::family_laws;
 
 /// The kind of families.
 #[derive(Clone, Copy, PartialEq, Eq, Hash)]

@@ -1,11 +1,11 @@
 -- The sets with an event, by halves.
 use Rattle.std.proofs.Common.{◌≡◌, ℕ, zero, suc, ◌<◌, false, eqb, List, [], Result, refl, sym, ap, ap₂, ◌∙◌, subst, arith, lt_trans}
-use Rattle.zdd_families.specs.Families.{Family}
-use Rattle.zdd_families.specs.FamiliesInside.{node, IsAbove, having}
-use Rattle.zdd_families.specs.Sections.{IsCounted}
-use Rattle.zdd_families.specs.SectionsInside.{IsMade}
-use Rattle.zdd_families.proofs.Laws.{having-above, having-here, having-node, IsAbove-having, IsAbove-node}
-use Rattle.zdd_families.proofs.Sections.{IsCounted-lower, IsCounted-upper}
+use Rattle.zdd_nodes.specs.Families.{Family}
+use Rattle.zdd_nodes.specs.FamiliesInside.{node, IsAbove, having}
+use Rattle.zdd_nodes.specs.Sections.{IsCounted}
+use Rattle.zdd_nodes.specs.SectionsInside.{IsMade}
+use Rattle.zdd_nodes.proofs.Laws.{having-above, having-here, having-node, IsAbove-having, IsAbove-node}
+use Rattle.zdd_nodes.proofs.Sections.{IsCounted-lower, IsCounted-upper}
 use Rattle.zdd_nodes.specs.Nodes.{NodeId, Stored, at, family, IsFamilyNumber, IsNode, Grows, Draws}
 use Rattle.zdd_nodes.specs.declared.NodeFault.{NodeFault}
 use Rattle.zdd_nodes.proofs.Growing.{Draws-weaker, counted_made}

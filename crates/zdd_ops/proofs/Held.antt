@@ -4,8 +4,8 @@ use Rattle.std.proofs.Math.Bool.{and-true}
 use Rattle.std.proofs.lemmas.Bool.{and_parts}
 use Rattle.std.specs.Map.{lookup}
 use Rattle.ar_base.proofs.Comparing.{id_from}
-use Rattle.zdd_families.specs.Families.{Family, without, minimal}
-use Rattle.zdd_families.specs.FamiliesInside.{having}
+use Rattle.zdd_nodes.specs.Families.{Family, without, minimal}
+use Rattle.zdd_nodes.specs.FamiliesInside.{having}
 use Rattle.zdd_nodes.specs.Nodes.{NodeId, Stored, at, Grows, Draws}
 use Rattle.zdd_nodes.specs.declared.NodeFault.{NodeFault}
 use Rattle.zdd_nodes.specs.declared.NodeFault.TheVariants.{Full, Memory as OutOfMemory}

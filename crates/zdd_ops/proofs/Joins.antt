@@ -1,10 +1,10 @@
 -- The joins by halves.
 use Rattle.std.proofs.Common.{◌≡◌, ℕ, [], Result, sym, ap, ap₂, ◌∙◌, subst, arith, ⊎_elim, ◌⊎◌}
-use Rattle.zdd_families.specs.Families.{Family, without}
-use Rattle.zdd_families.specs.FamiliesInside.{node, IsAbove, union, meet, minus}
-use Rattle.zdd_families.specs.Sections.{IsCounted}
-use Rattle.zdd_families.proofs.Laws.{union-node, meet-node, minus-node, IsAbove-union, IsAbove-meet, IsAbove-minus, union-nil, union-self, meet-self, meet-nil, nil-meet, minus-nil, nil-minus, minus-self, nil-without, without-nil, without-self}
-use Rattle.zdd_families.proofs.Sections.{IsCounted-lower, IsCounted-upper}
+use Rattle.zdd_nodes.specs.Families.{Family, without}
+use Rattle.zdd_nodes.specs.FamiliesInside.{node, IsAbove, union, meet, minus}
+use Rattle.zdd_nodes.specs.Sections.{IsCounted}
+use Rattle.zdd_nodes.proofs.Laws.{union-node, meet-node, minus-node, IsAbove-union, IsAbove-meet, IsAbove-minus, union-nil, union-self, meet-self, meet-nil, nil-meet, minus-nil, nil-minus, minus-self, nil-without, without-nil, without-self}
+use Rattle.zdd_nodes.proofs.Sections.{IsCounted-lower, IsCounted-upper}
 use Rattle.zdd_nodes.specs.Nodes.{NodeId, Stored, at, family, Grows, Draws}
 use Rattle.zdd_nodes.specs.declared.NodeFault.{NodeFault}
 use Rattle.zdd_nodes.proofs.Growing.{Draws-weaker, counted_made}

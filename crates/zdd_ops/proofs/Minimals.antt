@@ -2,12 +2,12 @@
 use Rattle.std.proofs.Common.{◌≡◌, ℕ, zero, suc, ◌<◌, List, Result, Ok, sym, ap, ◌∙◌, subst, arith, lt_trans}
 use Rattle.std.specs.List.{AllByRecursion}
 use Rattle.ar_base.specs.Sets.{Ascends}
-use Rattle.zdd_families.specs.Families.{Family, minimal, without}
-use Rattle.zdd_families.specs.FamiliesInside.{node}
-use Rattle.zdd_families.specs.Sections.{IsCounted, IsPartOfBoth, IsHalf}
-use Rattle.zdd_families.proofs.Laws.{minimal-nil, minimal-unit, IsAbove-minimal, IsAbove-without}
-use Rattle.zdd_families.proofs.Minimal.{minimal-node}
-use Rattle.zdd_families.proofs.Halves.{half_lower, half_upper, half_whole, half_parts}
+use Rattle.zdd_nodes.specs.Families.{Family, minimal, without}
+use Rattle.zdd_nodes.specs.FamiliesInside.{node}
+use Rattle.zdd_nodes.specs.Sections.{IsCounted, IsPartOfBoth, IsHalf}
+use Rattle.zdd_nodes.proofs.Laws.{minimal-nil, minimal-unit, IsAbove-minimal, IsAbove-without}
+use Rattle.zdd_nodes.proofs.Minimal.{minimal-node}
+use Rattle.zdd_nodes.proofs.Halves.{half_lower, half_upper, half_whole, half_parts}
 use Rattle.zdd_nodes.specs.Nodes.{NodeId, Stored, at, family, IsFamilyNumber, IsNode, Grows, Draws}
 use Rattle.zdd_nodes.specs.declared.NodeFault.{NodeFault}
 use Rattle.zdd_nodes.proofs.Growing.{kept, still, Draws-weaker, Draws-after, counted_made}

@@ -1,10 +1,10 @@
 -- What is left of a family where sets of no account are dropped.
 use Rattle.std.proofs.Common.{◌≡◌, ℕ, zero, suc, ◌+◌, ◌<◌, ◌≤◌, List, [], length, Result, refl, sym, ap, ap₂, ◌∙◌, subst, arith}
-use Rattle.zdd_families.specs.Families.{Family, without}
-use Rattle.zdd_families.specs.FamiliesInside.{node, IsAbove, meet, minus}
-use Rattle.zdd_families.specs.Sections.{IsPartOfBoth, IsCounted}
-use Rattle.zdd_families.proofs.Laws.{meet-node, minus-node, without-node, nil-meet, meet-nil, nil-minus, nil-without}
-use Rattle.zdd_families.proofs.Sections.{IsPart-00}
+use Rattle.zdd_nodes.specs.Families.{Family, without}
+use Rattle.zdd_nodes.specs.FamiliesInside.{node, IsAbove, meet, minus}
+use Rattle.zdd_nodes.specs.Sections.{IsPartOfBoth, IsCounted}
+use Rattle.zdd_nodes.proofs.Laws.{meet-node, minus-node, without-node, nil-meet, meet-nil, nil-minus, nil-without}
+use Rattle.zdd_nodes.proofs.Sections.{IsPart-00}
 use Rattle.zdd_nodes.specs.Nodes.{NodeId, Stored, family, at, IsNode, Draws}
 use Rattle.zdd_nodes.specs.declared.NodeFault.{NodeFault}
 use Rattle.zdd_nodes.proofs.Growing.{Draws-weaker}

@@ -1,10 +1,10 @@
 -- The sets that contain no set of another family, by halves.
 use Rattle.std.proofs.Common.{◌≡◌, ℕ, Result, Ok, sym, ap₂, ◌∙◌, subst}
-use Rattle.zdd_families.specs.Families.{Family, without}
-use Rattle.zdd_families.specs.FamiliesInside.{node, IsAbove, meet}
-use Rattle.zdd_families.specs.Sections.{IsCounted, IsPartOfBoth}
-use Rattle.zdd_families.proofs.Laws.{without-node, IsAbove-without, IsAbove-meet}
-use Rattle.zdd_families.proofs.Sections.{IsCounted-upper, IsPart-00, IsPart-10, IsPart-11, IsPart-whole}
+use Rattle.zdd_nodes.specs.Families.{Family, without}
+use Rattle.zdd_nodes.specs.FamiliesInside.{node, IsAbove, meet}
+use Rattle.zdd_nodes.specs.Sections.{IsCounted, IsPartOfBoth}
+use Rattle.zdd_nodes.proofs.Laws.{without-node, IsAbove-without, IsAbove-meet}
+use Rattle.zdd_nodes.proofs.Sections.{IsCounted-upper, IsPart-00, IsPart-10, IsPart-11, IsPart-whole}
 use Rattle.zdd_nodes.specs.Nodes.{NodeId, Stored, family, IsFamilyNumber, Grows, Draws}
 use Rattle.zdd_nodes.specs.declared.NodeFault.{NodeFault}
 use Rattle.zdd_nodes.proofs.Growing.{Grows-then, kept, still, Draws-weaker, Draws-after, counted_made}

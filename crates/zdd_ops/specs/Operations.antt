@@ -1,8 +1,8 @@
 -- The results of operations that are held.
 use Rattle.std.specs.Prelude.{◌≡◌, ℕ, ◌+◌, ◌<◌, ◌⊎◌, Bool, true, false, ◌&&◌, eqb, List, length, Some}
 use Rattle.std.specs.Map.{lookup}
-use Rattle.zdd_families.specs.Families.{Family, without, minimal}
-use Rattle.zdd_families.specs.FamiliesInside.{union, meet, minus, having}
+use Rattle.zdd_nodes.specs.Families.{Family, without, minimal}
+use Rattle.zdd_nodes.specs.FamiliesInside.{union, meet, minus, having}
 use Rattle.zdd_nodes.specs.Nodes.{NodeId, at}
 use Rattle.zdd_ops.specs.declared.memo.Join.{Join}
 use Rattle.zdd_ops.specs.declared.memo.Join.TheVariants.{Union, Meet, Minus}

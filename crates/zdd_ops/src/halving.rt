@@ -1,9 +1,9 @@
 //! Each operation by the halves of its operands.
 
 ghost use Rattle.std.specs.Prelude.{◌≤◌, ◌⊎◌, MatchOption};
-ghost use Rattle.zdd_families.specs.Families.{without, minimal};
-ghost use Rattle.zdd_families.specs.FamiliesInside.{having};
-ghost use Rattle.zdd_families.specs.Sections.{IsCounted, IsPartOfBoth, IsHalf};
+ghost use Rattle.zdd_nodes.specs.Families.{without, minimal};
+ghost use Rattle.zdd_nodes.specs.FamiliesInside.{having};
+ghost use Rattle.zdd_nodes.specs.Sections.{IsCounted, IsPartOfBoth, IsHalf};
 ghost use Rattle.zdd_nodes.specs.Nodes.{family, IsFamilyNumber, IsSoundStore, Draws};
 ghost use Rattle.zdd_ops.specs.Operations.{join_of, AreResultsHeld, IsKnownResult};
 

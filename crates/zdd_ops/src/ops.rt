@@ -1,10 +1,10 @@
 //! The operations, over a store of their own.
 
 ghost use Rattle.std.specs.Prelude.{◌≡◌, ◌≤◌, ◌↔◌, ◌⊎◌, [], IfOk, OnErr};
-ghost use Rattle.zdd_families.specs.Families.{minimal, without};
-ghost use Rattle.zdd_families.specs.FamiliesInside.{node, IsAbove, union, meet, minus, having};
-ghost use Rattle.zdd_families.specs.Sections.{IsCounted, IsPartOfBoth, IsHalf, IsMoreThan};
-ghost use Rattle.zdd_families.specs.SectionsInside.{IsMade};
+ghost use Rattle.zdd_nodes.specs.Families.{minimal, without};
+ghost use Rattle.zdd_nodes.specs.FamiliesInside.{node, IsAbove, union, meet, minus, having};
+ghost use Rattle.zdd_nodes.specs.Sections.{IsCounted, IsPartOfBoth, IsHalf, IsMoreThan};
+ghost use Rattle.zdd_nodes.specs.SectionsInside.{IsMade};
 ghost use Rattle.zdd_nodes.specs.Nodes.{family, IsFamilyNumber, IsStored, IsSoundStore, Draws, HasNoRoom, MakesFamily};
 
 use crate::halving::{having_in, join_in, minimal_in, without_in};

@@ -1,6 +1,6 @@
 use Rattle.std.proofs.Common.{ℕ, List, [], ◌∷◌, refl, arith, ◌≤◌}
 use Rattle.std.specs.List.{AllByRecursion}
-use Rattle.zdd_families.proofs.Ascending.{is_ascending}
+use Rattle.zdd_nodes.proofs.Ascending.{is_ascending}
 use Rattle.firable_families.proofs.Trees.{walk_lists}
 use Rattle.firable_families.proofs.Walking.{left_section}
 use Rattle.firable_families.proofs.ModePaths.{entries_listed}

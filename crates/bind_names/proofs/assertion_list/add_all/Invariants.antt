@@ -6,7 +6,7 @@ use Rattle.hierarchy.specs.Listing.{all_in, asserted}
 use Rattle.hierarchy.specs.Models.{RootedModel}
 use Rattle.hierarchy.specs.Units.{UnitPath, members_at}
 use Rattle.unit_rules.specs.Searched.{forms_of}
-use Rattle.bind_values.specs.Settled.{AreSettled}
+use Rattle.bind_names.specs.Settled.{AreSettled}
 use Rattle.bind_names.specs.Adding.{AddsAssertions}
 use Rattle.bind_names.proofs.assertion_list.add_all.Given as goal
 

@@ -2,7 +2,7 @@ use Rattle.std.proofs.Common.{List, [], take}
 use Rattle.hierarchy.specs.Listing.{assertions}
 use Rattle.hierarchy.specs.Models.{RootedModel}
 use Rattle.hierarchy.specs.Units.{UnitPath}
-use Rattle.bind_values.specs.Settled.{AreSettled}
+use Rattle.bind_names.specs.Settled.{AreSettled}
 use Rattle.bind_names.specs.Adding.{AddsAssertions}
 use Rattle.bind_names.proofs.assertion_list.assertions.Given as goal
 

@@ -2,7 +2,7 @@ use Rattle.std.proofs.Common.{List, take}
 use Rattle.ar_base.specs.Lists.{Stands}
 use Rattle.hierarchy.specs.Models.{RootedModel}
 use Rattle.hierarchy.specs.Units.{UnitPath}
-use Rattle.bind_values.specs.Settled.{AreSettled}
+use Rattle.bind_names.specs.Settled.{AreSettled}
 use Rattle.bind_names.specs.Ways.{AreMembersOfUnit}
 use Rattle.bind_names.specs.Gathering.{AddsMembers}
 use Rattle.bind_names.proofs.Sited.{forms_of_sites}

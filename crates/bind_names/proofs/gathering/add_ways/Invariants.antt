@@ -3,7 +3,7 @@ use Rattle.ar_base.specs.Lists.{Along}
 use Rattle.hierarchy.specs.Models.{RootedModel}
 use Rattle.hierarchy.specs.Units.{UnitPath}
 use Rattle.hierarchy.specs.Listing.{events}
-use Rattle.bind_values.specs.Settled.{AreSettled}
+use Rattle.bind_names.specs.Settled.{AreSettled}
 use Rattle.bind_names.specs.Gathering.{HasWays}
 use Rattle.bind_names.proofs.Gathered.{AreFilled}
 use Rattle.bind_names.proofs.gathering.add_ways.Given as goal

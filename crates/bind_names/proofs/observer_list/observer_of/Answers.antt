@@ -1,6 +1,6 @@
 use Rattle.std.proofs.Common.{sym}
 use Rattle.source_meaning.specs.Tested.{observer}
-use Rattle.bind_rules.proofs.Valued.{observer_is}
+use Rattle.bind_names.proofs.Valued.{observer_is}
 use Rattle.bind_names.proofs.Observed.{listed_observer, bound_observer, node_declared, node_kind}
 use Rattle.bind_names.proofs.observer_list.observer_of.Goals as goal
 

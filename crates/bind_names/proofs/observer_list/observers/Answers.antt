@@ -5,7 +5,7 @@ use Rattle.ar_base.proofs.Standing.{along_on, along_back, along_length, one_here
 use Rattle.gts_core.specs.declared.system.Observer.{Observer}
 use Rattle.hierarchy.specs.Listing.{observers}
 use Rattle.hierarchy.specs.declared.tree.MemNode.{MemNode}
-use Rattle.bind_values.proofs.ValuesRight.{along_next, along_end}
+use Rattle.bind_names.proofs.ValuesRight.{along_next, along_end}
 use Rattle.bind_names.specs.ListBound.{IsBoundObserver}
 use Rattle.bind_names.proofs.observer_list.observers.Goals as goal
 

@@ -4,7 +4,7 @@ use Rattle.hierarchy.specs.Listing.{observers}
 use Rattle.hierarchy.specs.Models.{RootedModel}
 use Rattle.hierarchy.specs.Paths.{prefix}
 use Rattle.hierarchy.specs.Units.{UnitPath}
-use Rattle.bind_values.specs.Settled.{AreSettled}
+use Rattle.bind_names.specs.Settled.{AreSettled}
 use Rattle.bind_names.specs.ListBound.{IsBoundObserver}
 use Rattle.bind_names.proofs.observer_list.observers.Given as goal
 

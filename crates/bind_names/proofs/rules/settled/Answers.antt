@@ -1,8 +1,8 @@
 use Rattle.std.proofs.Common.{Result, Err, ◌∙◌, ap, subst, arith}
 use Rattle.std.proofs.lemmas.Result.{err_from_is_err_and}
 use Rattle.ar_base.specs.declared.places.Place.{Place}
-use Rattle.bind_values.specs.Values.{IsValued}
-use Rattle.bind_values.specs.declared.whole.Values.{Values}
+use Rattle.bind_names.specs.Values.{IsValued}
+use Rattle.bind_names.specs.declared.all_values.Values.{Values}
 use Rattle.bind_names.proofs.Ruled.{rule10, rule11, rule13, below_first, naming, kinds, targets, names_kept, passes10, passes11, passes13, refuses_test, outside_told, values_pass, keeps_names}
 use Rattle.bind_names.proofs.rules.settled.Goals as goal
 

@@ -5,7 +5,7 @@ use Rattle.domains.specs.Domains.{Holds}
 use Rattle.domains.specs.declared.Value.{Value}
 use Rattle.gts_core.specs.Readings.{valuation_at}
 use Rattle.hierarchy.specs.Listing.{variables}
-use Rattle.bind_values.specs.Values.{IsValue}
+use Rattle.bind_names.specs.Values.{IsValue}
 use Rattle.bind_names.proofs.Varied.{bound_variable, sound_variable, value_found, along_at, first_none, first_next, first_all}
 use Rattle.bind_names.proofs.variable_list.variables.Goals as goal
 

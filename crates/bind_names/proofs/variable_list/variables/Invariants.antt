@@ -3,7 +3,7 @@ use Rattle.hierarchy.specs.Models.{RootedModel}
 use Rattle.hierarchy.specs.Paths.{prefix}
 use Rattle.hierarchy.specs.Tie.{IsTreeOf}
 use Rattle.hierarchy.specs.Units.{UnitPath}
-use Rattle.bind_values.specs.Values.{AreValues}
+use Rattle.bind_names.specs.Values.{AreValues}
 use Rattle.bind_names.proofs.Varied.{AreFirst}
 use Rattle.bind_names.proofs.variable_list.variables.Given as goal
 

@@ -1,6 +1,6 @@
 use Rattle.std.proofs.Common.{◌≡◌, ◌||◌, [], ◌∷◌, ap, ap₂, ◌∙◌}
 use Rattle.ar_base.proofs.Results.{ok_map}
-use Rattle.zdd_families.specs.FamiliesInside.{node}
+use Rattle.zdd_nodes.specs.FamiliesInside.{node}
 use Rattle.zdd_nodes.specs.Nodes.{family}
 use Rattle.diagram_steps.proofs.Growing.{extends_then, extends_by, kept}
 use Rattle.least_families.specs.Least.{covers}

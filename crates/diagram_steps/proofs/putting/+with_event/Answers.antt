@@ -1,7 +1,7 @@
 use Rattle.std.proofs.Common.{◌≡◌, ◌<◌, [], sym, ap, ◌∙◌, subst, arith}
 use Rattle.ar_base.proofs.Results.{ok_map}
-use Rattle.zdd_families.specs.FamiliesInside.{node, IsAbove}
-use Rattle.zdd_families.proofs.Laws.{IsAbove-union}
+use Rattle.zdd_nodes.specs.FamiliesInside.{node, IsAbove}
+use Rattle.zdd_nodes.proofs.Laws.{IsAbove-union}
 use Rattle.zdd_nodes.specs.Nodes.{Stored, family, IsNode}
 use Rattle.zdd_nodes.proofs.Lists.{node_above}
 use Rattle.diagram_steps.specs.Putting.{HasWith}

@@ -3,7 +3,7 @@ use Rattle.std.proofs.Common.{◌≡◌, ℕ, ◌+◌, ◌≤◌, List, [], ◌�
 use Rattle.std.proofs.lemmas.List.{map-append, length-map, take_at}
 use Rattle.std.proofs.lemmas.Option.{slice_get-get_or}
 use Rattle.ar_base.specs.Lists.{Stands, IsOneOf}
-use Rattle.flow_blocks.specs.declared.graph.Block.{Block}
+use Rattle.flow_blocks.specs.declared.dependences.Block.{Block}
 use Rattle.flow_blocks.specs.Table.{members_of, IsPartTable}
 use Rattle.flow_blocks.proofs.TableLemmas.{lone, part_more, passed}
 use Rattle.flow_blocks.proofs.classing.look_at.Goals as goal

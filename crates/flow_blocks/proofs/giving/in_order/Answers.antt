@@ -4,7 +4,7 @@ use Rattle.std.proofs.lemmas.List.{length-map, map-append}
 use Rattle.std.proofs.lemmas.Option.{slice_get-get_or}
 use Rattle.ar_base.specs.Lists.{Stands, IsOneOf}
 use Rattle.ar_base.proofs.Standing.{stands_none, stands_within, stands_map}
-use Rattle.flow_blocks.specs.declared.graph.Block.{Block}
+use Rattle.flow_blocks.specs.declared.dependences.Block.{Block}
 use Rattle.flow_blocks.specs.Blocks.{Follow, all_given, next, IsGiven}
 use Rattle.flow_blocks.specs.Table.{members_of}
 use Rattle.flow_blocks.specs.Waits.{IsWaiting, WasGiven, AreGivenTogether, left_to_give}

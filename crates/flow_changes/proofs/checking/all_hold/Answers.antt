@@ -4,7 +4,7 @@ use Rattle.ar_base.proofs.Standing.{stands_get, stands_item, stands_one, one_her
 use Rattle.ar_meaning.specs.Flows.{IsBrokenAssign}
 use Rattle.gts_core.specs.View.{net_of, assign_of}
 use Rattle.gts_core.specs.declared.system.Assign.{Assign}
-use Rattle.value_changes.proofs.Picks.{one_taken, within_at}
+use Rattle.flow_changes.proofs.Picks.{one_taken, within_at}
 use Rattle.flow_changes.proofs.checking.all_hold.Goals as goal
 
 pub offset_bounds-order-place : goal.offset_bounds-order-place

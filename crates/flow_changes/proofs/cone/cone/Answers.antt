@@ -1,7 +1,7 @@
 use Rattle.std.proofs.Common.{false, List, ℕ, true, subst}
 use Rattle.ar_base.specs.Lists.{IsOneOf}
 use Rattle.ar_base.proofs.Standing.{stands_within}
-use Rattle.value_changes.specs.Picking.{AreSet}
+use Rattle.flow_changes.specs.Picking.{AreSet}
 use Rattle.flow_changes.proofs.Seeing.{cone_of, marks_back}
 use Rattle.flow_changes.proofs.Sorting.{kept_ascends, kept_there, kept_back}
 use Rattle.flow_changes.proofs.cone.cone.Goals as goal

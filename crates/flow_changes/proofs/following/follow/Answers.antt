@@ -8,7 +8,7 @@ use Rattle.gts_core.specs.Readings.{IsTotal}
 use Rattle.gts_core.specs.View.{net_of, assign_of}
 use Rattle.flow_changes.specs.Cone.{Knows}
 use Rattle.flow_changes.specs.Known.{changing_numbers, Resets}
-use Rattle.value_changes.specs.Picking.{KeepsOthers, AreWithin}
+use Rattle.flow_changes.specs.Picking.{KeepsOthers, AreWithin}
 use Rattle.flow_changes.specs.Following.{ClosesUp}
 use Rattle.flow_changes.proofs.Begun.{new_inside, within_long}
 use Rattle.flow_changes.proofs.Follows.{state_total, inside, first_sound, reset_total, kept_values, follows, kept_through, marks_through}

@@ -1,7 +1,7 @@
 use Rattle.std.proofs.Common.{◌<◌, List, length, get_or, take, ◌+◌, subst, sym, arith}
 use Rattle.ar_base.proofs.Standing.{stands_get, stands_item}
-use Rattle.value_changes.specs.Picking.{ArePicked}
-use Rattle.value_changes.proofs.Picks.{picked_next}
+use Rattle.flow_changes.specs.Picking.{ArePicked}
+use Rattle.flow_changes.proofs.Picks.{picked_next}
 use Rattle.flow_changes.proofs.picking.picked.Goals as goal
 
 pub offset_bounds-all-n : goal.offset_bounds-all-n

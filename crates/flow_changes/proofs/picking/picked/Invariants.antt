@@ -1,5 +1,5 @@
 use Rattle.std.proofs.Common.{take}
-use Rattle.value_changes.specs.Picking.{ArePicked}
+use Rattle.flow_changes.specs.Picking.{ArePicked}
 use Rattle.flow_changes.proofs.picking.picked.Given as goal
 
 abbrev pub invariant-loop-n : goal.invariant-loop-n

@@ -1,6 +1,6 @@
 use Rattle.std.proofs.Common.{◌<◌, length, get_or, rules, refl, ◌∙◌, arith, length-set}
 use Rattle.ar_base.proofs.Standing.{stands_get, stands_item}
-use Rattle.value_changes.proofs.Picks.{back_next, back_done}
+use Rattle.flow_changes.proofs.Picks.{back_next, back_done}
 use Rattle.flow_changes.proofs.picking.put_back.Goals as goal
 
 pub loop-place-init : goal.loop-place-init

@@ -1,5 +1,5 @@
 use Rattle.std.proofs.Common.{◌≡◌, List, drop, length}
-use Rattle.value_changes.specs.Picking.{KeepsOthers, ArePicked}
+use Rattle.flow_changes.specs.Picking.{KeepsOthers, ArePicked}
 use Rattle.flow_changes.proofs.picking.put_back.Given as goal
 
 abbrev pub invariant-loop-place : goal.invariant-loop-place

@@ -1,6 +1,6 @@
 use Rattle.std.proofs.Common.{◌<◌, length, get_or, rules, arith}
 use Rattle.ar_base.proofs.Standing.{stands_get}
-use Rattle.value_changes.proofs.Picks.{set_none, set_next, set_done}
+use Rattle.flow_changes.proofs.Picks.{set_none, set_next, set_done}
 use Rattle.flow_changes.proofs.picking.set_all.Goals as goal
 
 pub loop-n-init : goal.loop-n-init

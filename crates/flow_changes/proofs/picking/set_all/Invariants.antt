@@ -1,5 +1,5 @@
 use Rattle.std.proofs.Common.{take}
-use Rattle.value_changes.specs.Picking.{AreSet}
+use Rattle.flow_changes.specs.Picking.{AreSet}
 use Rattle.flow_changes.proofs.picking.set_all.Given as goal
 
 abbrev pub invariant-loop-n : goal.invariant-loop-n

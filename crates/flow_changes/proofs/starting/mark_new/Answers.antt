@@ -2,7 +2,7 @@ use Rattle.std.proofs.Common.{◌<◌, true, length, get_or, rules, arith}
 use Rattle.ar_base.proofs.Standing.{stands_get}
 use Rattle.flow_changes.specs.Known.{changing_numbers}
 use Rattle.flow_changes.proofs.Begun.{no_pair, new_within, new_there, numbers_long}
-use Rattle.value_changes.proofs.Picks.{set_none, set_next, set_done}
+use Rattle.flow_changes.proofs.Picks.{set_none, set_next, set_done}
 use Rattle.flow_changes.proofs.starting.mark_new.Goals as goal
 
 pub loop-variable-init : goal.loop-variable-init

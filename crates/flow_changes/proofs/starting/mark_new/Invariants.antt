@@ -1,5 +1,5 @@
 use Rattle.std.proofs.Common.{true, take}
-use Rattle.value_changes.specs.Picking.{AreSet}
+use Rattle.flow_changes.specs.Picking.{AreSet}
 use Rattle.flow_changes.specs.Known.{changing_numbers}
 use Rattle.flow_changes.proofs.starting.mark_new.Given as goal
 

@@ -1,6 +1,6 @@
 use Rattle.std.proofs.Common.{◌<◌, false, length, get_or, rules, arith}
 use Rattle.ar_base.proofs.Standing.{stands_get, stands_item}
-use Rattle.value_changes.proofs.Picks.{within_at}
+use Rattle.flow_changes.proofs.Picks.{within_at}
 use Rattle.flow_changes.proofs.Begun.{resets_none, resets_next, resets_done}
 use Rattle.flow_changes.proofs.starting.reset.Goals as goal
 

@@ -1,6 +1,6 @@
 use Rattle.std.proofs.Common.{Bool, List, sym, subst}
 use Rattle.domains.specs.declared.Value.{Value}
-use Rattle.value_changes.specs.Picking.{AreWithin}
+use Rattle.flow_changes.specs.Picking.{AreWithin}
 use Rattle.flow_changes.proofs.trying.snapshot_of.Goals as goal
 
 pub picked-requires : goal.picked-requires

@@ -6,8 +6,8 @@ use Rattle.flow_propagate.specs.Answers.{IsState}
 use Rattle.flow_propagate.specs.Determined.{IsDeterminedBy}
 use Rattle.flow_propagate.specs.NewValues.{written}
 use Rattle.flow_changes.specs.Known.{changing_numbers}
-use Rattle.value_changes.specs.Picking.{AreWithin, ArePicked, KeepsOthers}
-use Rattle.value_changes.specs.Restoring.{TellsChanges}
+use Rattle.flow_changes.specs.Picking.{AreWithin, ArePicked, KeepsOthers}
+use Rattle.flow_changes.specs.Restoring.{TellsChanges}
 use Rattle.flow_changes.proofs.Begun.{new_inside, within_long}
 use Rattle.flow_changes.proofs.Written.{written_total}
 use Rattle.flow_changes.proofs.Anew.{all_within, all_picked, all_kept}

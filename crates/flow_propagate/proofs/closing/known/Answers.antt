@@ -1,7 +1,7 @@
 use Rattle.std.proofs.Common.{◌≡◌, inl, ℕ, List, length, subst, ap, ◌∙◌, arith}
 use Rattle.ar_base.proofs.Standing.{stands_within}
 use Rattle.gts_core.specs.declared.system.Variable.{Variable}
-use Rattle.fact_rows.specs.Rows.{Starts}
+use Rattle.flow_propagate.specs.Rows.{Starts}
 use Rattle.flow_propagate.specs.Closing.{IsWorklist}
 use Rattle.flow_propagate.proofs.Looking.{are_facts}
 use Rattle.flow_propagate.proofs.Starting.{starts_sound, starts_given}

@@ -2,7 +2,7 @@ use Rattle.std.proofs.Common.{◌<◌, ℕ, List, [], map, length, subst, sym, �
 use Rattle.ar_base.proofs.Results.{ok_map}
 use Rattle.flow_blocks.specs.Blocks.{Follow}
 use Rattle.flow_blocks.specs.BlocksInside.{AreUsesBelow}
-use Rattle.flow_blocks.specs.declared.graph.Block.{Block}
+use Rattle.flow_blocks.specs.declared.dependences.Block.{Block}
 use Rattle.gts_core.specs.declared.system.Variable.{Variable}
 use Rattle.flow_propagate.specs.Dependence.{flows_in, ArePlaces}
 use Rattle.flow_propagate.proofs.Numbered.{count_from}

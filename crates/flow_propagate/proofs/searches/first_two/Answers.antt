@@ -4,7 +4,7 @@ use Rattle.ar_base.proofs.Items.{before_more}
 use Rattle.domains.specs.declared.Value.{Value}
 use Rattle.gts_core.specs.declared.system.Variable.{Variable}
 use Rattle.typed_expr.specs.Rows.{known_row_at}
-use Rattle.fact_rows.specs.Rows.{IsTwo}
+use Rattle.flow_propagate.specs.Rows.{IsTwo}
 use Rattle.flow_propagate.proofs.Putting.{row_here}
 use Rattle.flow_propagate.proofs.Searching.{two_found, two_none}
 use Rattle.flow_propagate.proofs.searches.first_two.Goals as goal

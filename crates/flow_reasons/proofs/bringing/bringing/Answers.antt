@@ -2,7 +2,7 @@ use Rattle.std.proofs.Common.{◌+◌, ℕ, List, [], take, get_or, rules, sym, 
 use Rattle.ar_base.proofs.Standing.{stands_get, one_here, stands_item}
 use Rattle.flow_reasons.specs.Bringing.{AreBringing}
 use Rattle.ar_meaning.proofs.Found.{holds, fails}
-use Rattle.fact_marks.proofs.Marking.{target_below}
+use Rattle.flow_reasons.proofs.Marking.{target_below}
 use Rattle.flow_reasons.proofs.Gathering.{bring_none, bring_taken, bring_left, bring_done}
 use Rattle.flow_reasons.proofs.bringing.bringing.Goals as goal
 use Rattle.flow_reasons.proofs.bringing.bringing.Goals.{then-brings+in_ok-push, else-brings}

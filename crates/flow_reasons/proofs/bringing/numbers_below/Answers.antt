@@ -2,7 +2,7 @@ use Rattle.std.proofs.Common.{◌↔◌, ◌<◌, ℕ, List, arith, subst, sym}
 use Rattle.ar_base.specs.Lists.{IsOneOf}
 use Rattle.ar_base.specs.Sets.{Ascends}
 use Rattle.ar_base.proofs.Sets.{ascends_push}
-use Rattle.fact_marks.proofs.Placing.{ascends_none}
+use Rattle.flow_reasons.proofs.Placing.{ascends_none}
 use Rattle.flow_reasons.proofs.Gathering.{below_none, below_next}
 use Rattle.flow_reasons.proofs.bringing.numbers_below.Goals as goal
 

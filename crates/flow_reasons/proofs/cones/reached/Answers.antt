@@ -2,7 +2,7 @@ use Rattle.std.proofs.Common.{◌≡◌, ◌<◌, ◌≤◌, ◌+◌, ℕ, Bool,
 use Rattle.ar_base.proofs.Standing.{stands_item}
 use Rattle.flow_reasons.specs.Answers.{numbers_of, reasons_of}
 use Rattle.flow_reasons.specs.Cones.{SeesAll}
-use Rattle.fact_marks.proofs.Placing.{written}
+use Rattle.flow_reasons.proofs.Placing.{written}
 use Rattle.flow_reasons.proofs.Followed.{Closing, closing_start, closing_more, closing_done}
 use Rattle.flow_reasons.proofs.cones.reached.Goals as goal
 

@@ -9,7 +9,7 @@ use Rattle.ar_meaning.specs.Found.{IsAnswer}
 use Rattle.ar_meaning.proofs.Found.{holds, fails}
 use Rattle.gts_core.specs.View.{condition_of}
 use Rattle.flow_reasons.specs.Marks.{Known}
-use Rattle.fact_marks.proofs.Marking.{open_from, not_open}
+use Rattle.flow_reasons.proofs.Marking.{open_from, not_open}
 use Rattle.flow_reasons.proofs.Knowing.{tells, brings_answer}
 use Rattle.flow_reasons.proofs.known.brings.Goals as goal
 

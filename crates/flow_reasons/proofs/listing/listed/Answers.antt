@@ -5,7 +5,7 @@ use Rattle.ar_base.proofs.Standing.{stands_get, stands_item}
 use Rattle.domains.specs.declared.Value.TheVariants.{Truth}
 use Rattle.gts_core.specs.declared.system.Variable.{Variable}
 use Rattle.flow_reasons.specs.Resting.{reason_made}
-use Rattle.fact_marks.specs.declared.Mark.TheVariants.{Unknown}
+use Rattle.flow_reasons.specs.declared.fact_marks.Mark.TheVariants.{Unknown}
 use Rattle.flow_reasons.specs.declared.reason.Reason.{Reason}
 use Rattle.flow_reasons.proofs.ReasonList.{AreListed, listed_none, listed_state, listed_flow, listed_done}
 use Rattle.flow_reasons.proofs.listing.listed.Goals as goal

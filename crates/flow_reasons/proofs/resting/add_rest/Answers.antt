@@ -1,7 +1,7 @@
 use Rattle.std.proofs.Common.{◌<◌, length, get_or, subst, arith}
 use Rattle.ar_base.proofs.Standing.{stands_get, stands_item, stands_one}
-use Rattle.fact_marks.specs.declared.Mark.{Mark}
-use Rattle.fact_marks.specs.declared.Mark.TheVariants.{Unknown}
+use Rattle.flow_reasons.specs.declared.fact_marks.Mark.{Mark}
+use Rattle.flow_reasons.specs.declared.fact_marks.Mark.TheVariants.{Unknown}
 use Rattle.flow_reasons.specs.Resting.{IsMarkedRest}
 use Rattle.ar_meaning.proofs.Found.{holds, fails}
 use Rattle.flow_reasons.proofs.RestRows.{adds_taken, adds_left}

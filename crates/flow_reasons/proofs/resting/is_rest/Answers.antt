@@ -1,6 +1,6 @@
 use Rattle.std.proofs.Common.{sym, ap}
 use Rattle.flow_reasons.specs.Resting.{came_before}
-use Rattle.fact_marks.specs.declared.Mark.{Mark}
+use Rattle.flow_reasons.specs.declared.fact_marks.Mark.{Mark}
 use Rattle.flow_reasons.proofs.RestRows.{rest_answer}
 use Rattle.flow_reasons.proofs.resting.is_rest.Goals as goal
 

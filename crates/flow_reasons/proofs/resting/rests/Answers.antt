@@ -3,7 +3,7 @@ use Rattle.ar_base.specs.Lists.{Stands}
 use Rattle.ar_base.proofs.Standing.{stands_get, stands_item, one_here}
 use Rattle.flow_propagate.proofs.ReaderPairs.{read_below}
 use Rattle.flow_reasons.proofs.Readers.{reader_below}
-use Rattle.fact_marks.proofs.Marking.{target_below}
+use Rattle.flow_reasons.proofs.Marking.{target_below}
 use Rattle.flow_reasons.proofs.RestRows.{rests_more}
 use Rattle.flow_reasons.proofs.resting.rests.Goals as goal
 

@@ -3,8 +3,8 @@ use Rattle.std.proofs.lemmas.List.{map-append}
 use Rattle.ar_base.proofs.Items.{take_item}
 use Rattle.gts_core.specs.declared.system.Variable.{Variable}
 use Rattle.flow_reasons.specs.Marks.{first_mark_of, first_marks_of}
-use Rattle.fact_marks.specs.declared.Mark.{Mark}
-use Rattle.fact_marks.specs.declared.Mark.TheVariants.{Given, Unknown}
+use Rattle.flow_reasons.specs.declared.fact_marks.Mark.{Mark}
+use Rattle.flow_reasons.specs.declared.fact_marks.Mark.TheVariants.{Given, Unknown}
 use Rattle.flow_reasons.proofs.rounds.first_marks.Goals as goal
 use Rattle.flow_reasons.proofs.rounds.first_marks.Goals.{then-variable, else-variable}
 

@@ -1,10 +1,10 @@
 use Rattle.std.proofs.Common.{◌≡◌, ◌<◌, ◌≤◌, ◌+◌, ◌^◌, ℕ, List, take, drop, ◌++◌, length, add-one, rules, sym, ◌∙◌, subst, arith}
 use Rattle.ar_base.specs.Lists.{IsOneOf}
 use Rattle.ar_base.proofs.Standing.{stands_some, stands_within, one_here}
-use Rattle.fact_marks.specs.declared.Mark.{Mark}
+use Rattle.flow_reasons.specs.declared.fact_marks.Mark.{Mark}
 use Rattle.flow_reasons.specs.Marks.{AreRoundMarks, unknown_count}
 use Rattle.flow_reasons.specs.Bringing.{BringsAt, BringAll, NameOne}
-use Rattle.fact_marks.proofs.Placing.{written}
+use Rattle.flow_reasons.proofs.Placing.{written}
 use Rattle.flow_reasons.proofs.Counting.{count_most, open_counts}
 use Rattle.flow_reasons.proofs.Rounding.{marks_zero, marks_more, names_fresh, marks_last, round_fewer, marked_as}
 use Rattle.flow_reasons.proofs.rounds.last_marks.Goals as goal

@@ -1,7 +1,7 @@
 use Rattle.std.proofs.Common.{◌≡◌, map, Ok, Err, sym, ap, ◌∙◌, subst}
 use Rattle.std.specs.List.{All}
 use Rattle.std.proofs.lemmas.Result.{err_from_is_err_and}
-use Rattle.zdd_families.specs.Families.{minimal}
+use Rattle.zdd_nodes.specs.Families.{minimal}
 use Rattle.zdd_nodes.specs.Nodes.{family, Draws, IsFamilyNumber}
 use Rattle.zdd_nodes.specs.declared.NodeFault.{NodeFault}
 use Rattle.zdd_nodes.specs.declared.NodeFault.TheVariants.{Full}

@@ -2,7 +2,7 @@ use Rattle.std.proofs.Common.{IfSome, map, refl, sym, subst}
 use Rattle.std.proofs.lemmas.Result.{err_from_is_err_and}
 use Rattle.zdd_nodes.specs.Nodes.{IsSoundStore}
 use Rattle.eq_core.specs.Views.{gate_of, table_of}
-use Rattle.mode_diagrams.specs.declared.drawing.Undrawn.TheVariants.{Memory}
+use Rattle.mode_diagrams.specs.declared.undrawn.Undrawn.TheVariants.{Memory}
 use Rattle.gate_sharing.specs.Simplified.{HaveSameValues}
 use Rattle.gate_diagrams.specs.ByModes.{HasValueOf}
 use Rattle.gate_diagrams.proofs.ByModes as a

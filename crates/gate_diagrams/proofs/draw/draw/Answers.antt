@@ -8,7 +8,7 @@ use Rattle.zdd_nodes.specs.Nodes.{family, Draws}
 use Rattle.eq_core.specs.Views.{gate_of, operand_of}
 use Rattle.eq_core.specs.Gates.{GateIs}
 use Rattle.eq_core.specs.ValuesInside.{IsBelow}
-use Rattle.gate_cones.specs.Cones.{InGateCone}
+use Rattle.eq_core.specs.Cones.{InGateCone}
 use Rattle.gate_diagrams.specs.Needed.{family_at, itself, IsNeeded}
 use Rattle.gate_diagrams.specs.Drawing.{IsGateReady, IsGateTabled}
 use Rattle.gate_diagrams.proofs.Tables as t

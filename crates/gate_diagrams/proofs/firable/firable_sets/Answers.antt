@@ -1,6 +1,6 @@
 use Rattle.std.proofs.Common.{◌≡◌, ◌≤◌, length, take_all, sym, ap, ◌∙◌, subst}
 use Rattle.std.proofs.lemmas.Result.{err_from_is_err_and}
-use Rattle.zdd_families.specs.Sections.{IsCounted}
+use Rattle.zdd_nodes.specs.Sections.{IsCounted}
 use Rattle.zdd_nodes.proofs.Growing.{Grows-none}
 use Rattle.gate_diagrams.specs.Walked.{moving, AreNumbers, AreWalked}
 use Rattle.gate_diagrams.proofs.FirableSets.{firable_drawn, none_walked}

@@ -1,7 +1,7 @@
 use Rattle.std.proofs.Common.{cond, refl, sym, subst, map, length}
 use Rattle.std.proofs.lemmas.Option.{slice_get_read}
-use Rattle.zdd_families.specs.FamiliesInside.{meet, union}
-use Rattle.zdd_families.specs.Sections.{IsCounted}
+use Rattle.zdd_nodes.specs.FamiliesInside.{meet, union}
+use Rattle.zdd_nodes.specs.Sections.{IsCounted}
 use Rattle.zdd_nodes.specs.Nodes.{family, Draws}
 use Rattle.eq_core.specs.declared.joints.Joint.{Joint}
 use Rattle.eq_core.specs.Views.{all_needed, operand_of, gate_of}

@@ -1,5 +1,5 @@
 use Rattle.std.proofs.Common.{map, sym, ap, ◌∙◌, subst}
-use Rattle.zdd_families.specs.Families.{minimal}
+use Rattle.zdd_nodes.specs.Families.{minimal}
 use Rattle.zdd_nodes.specs.Nodes.{family}
 use Rattle.eq_core.specs.Views.{gate_of, operand_of}
 use Rattle.coherent_cuts.specs.Gates.{HasLeastFirable}

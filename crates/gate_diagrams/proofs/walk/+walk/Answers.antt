@@ -1,7 +1,7 @@
 use Rattle.std.proofs.Common.{◌≡◌, nat_eq, Some, None, Ok, Err, true, false, sym, ap, ◌∙◌, subst, arith}
 use Rattle.std.specs.List.{list_any}
 use Rattle.std.proofs.lemmas.Result.{err_from_is_err_and}
-use Rattle.zdd_families.specs.Sections.{IsCounted}
+use Rattle.zdd_nodes.specs.Sections.{IsCounted}
 use Rattle.zdd_nodes.specs.Nodes.{NodeId, family}
 use Rattle.zdd_nodes.proofs.Growing.{Grows-none, Draws-stays}
 use Rattle.zdd_ops.proofs.Held.{handed}

@@ -1,7 +1,7 @@
 use Rattle.std.proofs.Common.{sym, ap, ◌∙◌, subst}
 use Rattle.zdd_nodes.specs.Nodes.{family}
-use Rattle.event_bounds.specs.Bounds.{node_numbers}
-use Rattle.event_bounds.proofs.Numbering.{numbers_push}
+use Rattle.zdd_nodes.specs.Bounds.{node_numbers}
+use Rattle.zdd_nodes.proofs.Numbering.{numbers_push}
 use Rattle.gate_modules.specs.Entries.{IsCovered, AddsSections}
 use Rattle.gate_modules.proofs.Entering.{covered_more, covered_node, seen_set, seen_more, adds_node, covered_leaf, adds_leaf}
 use Rattle.gate_modules.proofs.entries.+collect.Goals as goal

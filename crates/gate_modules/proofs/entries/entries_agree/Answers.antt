@@ -3,8 +3,8 @@ use Rattle.ar_base.specs.Lists.{IsOneOf}
 use Rattle.ar_base.proofs.Standing.{stands_get}
 use Rattle.gate_modules.specs.Walked.{EntryAgrees}
 use Rattle.gate_modules.specs.Walked.EntryAgrees.{no_part, alike}
-use Rattle.event_bounds.specs.Bounds.{node_numbers}
-use Rattle.event_bounds.proofs.Numbering.{all_more, number_stands}
+use Rattle.zdd_nodes.specs.Bounds.{node_numbers}
+use Rattle.zdd_nodes.proofs.Numbering.{all_more, number_stands}
 use Rattle.gate_modules.proofs.Answering.{told_no}
 use Rattle.gate_modules.proofs.Entering.{entry_exit_up}
 use Rattle.gate_modules.proofs.entries.entries_agree.Goals as goal

@@ -1,6 +1,6 @@
 use Rattle.std.proofs.Common.{◌≡◌, ℕ, length, take}
 use Rattle.ar_base.specs.Lists.{IsOneOf}
-use Rattle.event_bounds.specs.Bounds.{node_numbers}
+use Rattle.zdd_nodes.specs.Bounds.{node_numbers}
 use Rattle.gate_modules.specs.Walked.{AreTwins, EntryAgrees}
 use Rattle.gate_modules.proofs.entries.entries_agree.Given as goal
 

@@ -1,5 +1,5 @@
 use Rattle.std.proofs.Common.{subst}
-use Rattle.event_bounds.specs.Bounds.{node_numbers}
+use Rattle.zdd_nodes.specs.Bounds.{node_numbers}
 use Rattle.gate_modules.specs.Entries.{AddsSections}
 use Rattle.gate_modules.proofs.Entering.{entries_from}
 use Rattle.gate_modules.proofs.entries.entries_of.Goals as goal

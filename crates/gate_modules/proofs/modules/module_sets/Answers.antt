@@ -2,11 +2,11 @@ use Rattle.std.proofs.Common.{◌≡◌, ◌∙◌, ◌<◌, ◌++◌, [], ℕ, 
 use Rattle.std.proofs.lemmas.List.{length-map}
 use Rattle.ar_base.specs.Lists.{Stands, IsOneOf}
 use Rattle.ar_base.proofs.Standing.{one_here, stands_map}
-use Rattle.zdd_families.specs.Families.{Family}
+use Rattle.zdd_nodes.specs.Families.{Family}
 use Rattle.zdd_nodes.specs.Nodes.{NodeId, Stored, family, IsFamilyNumber}
 use Rattle.gate_modules.specs.Parts.{AreSomeHeads, AddsSomeHeads}
 use Rattle.gate_modules.specs.ShortenedInside.{set_of}
-use Rattle.event_bounds.specs.Bounds.{node_numbers, AllEnd, IsReference}
+use Rattle.zdd_nodes.specs.Bounds.{node_numbers, AllEnd, IsReference}
 use Rattle.gate_modules.specs.Entries.{EntriesAnswer}
 use Rattle.gate_modules.proofs.Deciding.{event_not_end, none_is_module, differs_no_module, few_no_module, is_module}
 use Rattle.gate_modules.proofs.Exchange.{from_or_none}

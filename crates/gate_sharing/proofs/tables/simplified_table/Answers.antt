@@ -8,7 +8,7 @@ use Rattle.eq_core.specs.Values.{signed, joint_at, values_at, value_at}
 use Rattle.eq_core.specs.Views.{all_needed, gate_of, operand_of, table_of}
 use Rattle.eq_core.specs.declared.joints.Gate.{Gate}
 use Rattle.eq_core.specs.declared.joints.Operand.{Operand}
-use Rattle.gate_cones.specs.Marks.{AreConeMarks}
+use Rattle.eq_core.specs.Marks.{AreConeMarks}
 use Rattle.gate_sharing.specs.Images.{image, needed_for, AreImages}
 use Rattle.gate_sharing.specs.Simplified.{HaveSameValues}
 use Rattle.gate_sharing.proofs.Imaging.{images_none, operands_below, needed_below, images_more, needed_marked, marked_needed, whole_ordered, whole_same}

@@ -1,6 +1,6 @@
 use Rattle.std.proofs.Common.{map, subst}
 use Rattle.hierarchy.specs.Settings.{target_word_of, outermost}
-use Rattle.settings_in_force.specs.InForce.{AreAttribute}
+use Rattle.instantiate.specs.InForce.{AreAttribute}
 use Rattle.instantiate.proofs.InForce.{value_set, value_own}
 use Rattle.instantiate.proofs.values.value_of.Goals as goal
 

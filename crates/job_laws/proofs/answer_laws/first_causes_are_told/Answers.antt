@@ -1,7 +1,7 @@
 use Rattle.std.proofs.Common.{Err}
 use Rattle.ar_base.specs.Stages.{refuses, passes}
 use Rattle.job_stages.specs.Stages.{loaded}
-use Rattle.ready_laws.specs.Ready.{SameReady}
+use Rattle.job_laws.specs.Ready.{SameReady}
 use Rattle.job_laws.proofs.Stages.{refusal_of}
 use Rattle.job_stages.specs.Elaborates.{reads, breach, breaks}
 use Rattle.job_stages.specs.declared.refusals.Refusal.TheVariants.{Rule}

@@ -1,6 +1,6 @@
 use Rattle.std.proofs.Common.{◌/◌, length, sym, ap, ◌∙◌, subst, arith}
 use Rattle.ar_base.proofs.Results.{ok_map}
-use Rattle.zdd_families.specs.FamiliesInside.{union}
+use Rattle.zdd_nodes.specs.FamiliesInside.{union}
 use Rattle.zdd_nodes.specs.Nodes.{NodeId, family}
 use Rattle.diagram_steps.proofs.Growing.{extends_none, extends_then, extends_by, kept}
 use Rattle.named_families.specs.Named.{AreNumbers, HasAllSets}

@@ -15,7 +15,7 @@ use Rattle.replayer.specs.Playing.{AreTotal, AnswersOneCommand}
 use Rattle.replayer.specs.Printing.{values_text}
 use Rattle.job_inputs.specs.declared.commands.Command.{Command}
 use Rattle.job_inputs.specs.declared.commands.Command.TheVariants as code
-use Rattle.replayer.specs.declared.replaying.End.{End}
+use Rattle.replayer.specs.declared.ends.End.{End}
 use Rattle.replayer.proofs.FollowLemmas.{total_none}
 use Rattle.replayer.proofs.WayLemmas.{fires_ways, firable_at}
 use Rattle.replayer.proofs.PlayLemmas.{no_memory, started_on, started_cut, obeyed_on, obeyed_stop, obeyed_err, ended_whole, ended_cut, replay_as}

@@ -9,7 +9,7 @@ use Rattle.replayer.specs.Settles.{Settles}
 use Rattle.replayer.specs.Settling.{AnswersCommand}
 use Rattle.job_inputs.specs.declared.commands.Command.{Command}
 use Rattle.job_inputs.specs.declared.commands.Command.TheVariants as code
-use Rattle.replayer.specs.declared.replaying.End.{End}
+use Rattle.replayer.specs.declared.ends.End.{End}
 use Rattle.replayer.proofs.WayLemmas.{firable_at}
 use Rattle.replayer.proofs.SettleLemmas.{running, running_on, running_fails, running_told, running_ends, settles_as}
 use Rattle.replayer.proofs.settling.run.Goals as goal

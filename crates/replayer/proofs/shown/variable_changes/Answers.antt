@@ -4,7 +4,7 @@ use Rattle.ar_io.proofs.Writing.{writes_exit, writes_as, leaves_all, leaves_on, 
 use Rattle.ar_meaning.specs.TraceText.{variable_line}
 use Rattle.gts_core.specs.Readings.{valuation_at}
 use Rattle.gts_flatten.specs.Flat.{naming_of_parts}
-use Rattle.value_changes.specs.Changes.{changed_numbers}
+use Rattle.flow_changes.specs.Changes.{changed_numbers}
 use Rattle.replayer.specs.Printing.{numbered_texts}
 use Rattle.replayer.proofs.shown.variable_changes.Goals as goal
 

@@ -1,7 +1,7 @@
 use Rattle.std.proofs.Common.{◌↔◌, ℕ, List, subst, take_all, ap, ◌∙◌}
 use Rattle.ar_base.specs.Lists.{IsOneOf}
-use Rattle.number_pairs.specs.Pairing.{IsPaired}
-use Rattle.value_changes.specs.Changes.{changed_numbers}
+use Rattle.ar_base.specs.Pairing.{IsPaired}
+use Rattle.flow_changes.specs.Changes.{changed_numbers}
 use Rattle.replayer.proofs.TouchLemmas.{paired_touched}
 use Rattle.replayer.proofs.touched.touched.Goals as goal
 

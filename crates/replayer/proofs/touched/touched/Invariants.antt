@@ -1,5 +1,5 @@
 use Rattle.std.proofs.Common.{◌≡◌, take}
-use Rattle.value_changes.specs.Changes.{changed_numbers}
+use Rattle.flow_changes.specs.Changes.{changed_numbers}
 use Rattle.replayer.proofs.touched.touched.Given as goal
 
 abbrev pub invariant-loop-variable : goal.invariant-loop-variable

@@ -5,7 +5,7 @@ use Rattle.domains.specs.declared.Value.{Value}
 use Rattle.gts_core.specs.declared.system.GtsParts.{GtsParts}
 use Rattle.gts_core.specs.Readings.{IsTotal}
 use Rattle.way_flags.specs.Ways.{AreFlags}
-use Rattle.value_changes.specs.Changes.{AreChanges}
+use Rattle.flow_changes.specs.Changes.{AreChanges}
 use Rattle.way_flags.specs.Renewing.{WereFlags}
 use Rattle.stepper.proofs.Kept.{kept_value}
 use Rattle.stepper.proofs.moves.go_on.Goals as goal

@@ -10,7 +10,7 @@ use Rattle.gts_core.specs.declared.system.GtsParts.{GtsParts}
 use Rattle.gts_core.proofs.Tests.{answer_false}
 use Rattle.way_flags.specs.Ready.{IsReadyWay, IsReceiveFault}
 use Rattle.flow_propagate.specs.NewValues.{AreNewValues, written}
-use Rattle.part_flags.specs.Parts.{flag_at}
+use Rattle.way_flags.specs.Parts.{flag_at}
 use Rattle.way_flags.specs.Ways.{AreFlags}
 use Rattle.way_flags.specs.declared.faults.ReceiveFault.{ReceiveFault}
 use Rattle.stepper.proofs.moves.next_values.Goals as goal

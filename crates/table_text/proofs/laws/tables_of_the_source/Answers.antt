@@ -14,7 +14,7 @@ use Rattle.gts_core.specs.View.{net_of, numbered}
 use Rattle.gts_core.specs.declared.system.Observer.{Observer}
 use Rattle.hierarchy.specs.Listing.{variables}
 use Rattle.mode_trees.specs.Views.{trees_of, number_in}
-use Rattle.table_steps.specs.Table.{IsTable}
+use Rattle.eq_build.specs.Table.{IsTable}
 use Rattle.aralia_text.specs.Texts.{equations_text}
 use Rattle.table_text.proofs.laws.tables_of_the_source.Goals as goal
 

@@ -4,8 +4,8 @@ use Rattle.gts_core.specs.View.{assign_of, condition_of}
 use Rattle.std.proofs.Common.{List, Bool, map}
 use Rattle.ar_base.specs.Numbers.{VarId}
 use Rattle.typed_expr.specs.declared.expr.Expr.{Expr}
-use Rattle.table_steps.specs.Steps.{Builds_conditions}
-use Rattle.table_steps.specs.Steps as t
+use Rattle.eq_build.specs.Steps.{Builds_conditions}
+use Rattle.eq_build.specs.Steps as t
 use Rattle.tree_equations.specs.Answers.{TooMany, assignment_parts, signs_in}
 use Rattle.tree_equations.proofs.Giving.{gives_on}
 use Rattle.tree_equations.proofs.Flowing.{Assigned, assign_first, assign_second}

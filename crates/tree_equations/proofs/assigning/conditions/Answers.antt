@@ -1,4 +1,4 @@
-use Rattle.table_steps.specs.Steps.{Threads, Builds_conditions}
+use Rattle.eq_build.specs.Steps.{Threads, Builds_conditions}
 use Rattle.std.proofs.Common.{map, sym, ap, ◌∙◌}
 use Rattle.domains.specs.declared.Value.TheVariants.{Truth}
 use Rattle.eq_build.specs.Entries.{operand_for}

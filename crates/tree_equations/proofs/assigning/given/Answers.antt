@@ -3,8 +3,8 @@ use Rattle.domains.specs.Domains.{values_of}
 use Rattle.eq_build.specs.Entries.{Group, entries_of, entries_for}
 use Rattle.eq_build.specs.Views.{gates_in, row_at, MakesEntries}
 use Rattle.gts_core.specs.View.{assign_of}
-use Rattle.table_steps.specs.Steps.{Gives_target, given_terms}
-use Rattle.table_steps.specs.Steps as t
+use Rattle.eq_build.specs.Steps.{Gives_target, given_terms}
+use Rattle.eq_build.specs.Steps as t
 use Rattle.tree_equations.specs.Answers.{TooMany, row_in, signs_in}
 use Rattle.tree_equations.proofs.Determined.{given_one}
 use Rattle.tree_equations.proofs.Giving.{gives_on, entries_give}

@@ -6,7 +6,7 @@ use Rattle.eq_core.specs.declared.joints.Operand as sign
 use Rattle.eq_build.specs.Entries.{Group, with_terms}
 use Rattle.eq_build.specs.Views.{operands_in, entries_in}
 use Rattle.eq_build.specs.declared.entries.Entry.{Entry}
-use Rattle.table_steps.specs.Steps.{given_terms}
+use Rattle.eq_build.specs.Steps.{given_terms}
 use Rattle.tree_equations.specs.Answers.{signs_in, row_in}
 use Rattle.tree_equations.proofs.SeeingLemmas.{given_put, given_skip, never_true}
 use Rattle.tree_equations.proofs.assigning.given_groups.Goals as goal

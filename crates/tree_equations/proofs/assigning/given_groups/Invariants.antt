@@ -2,7 +2,7 @@ use Rattle.std.proofs.Common.{◌≡◌, drop, []}
 use Rattle.domains.specs.Domains.{values_of}
 use Rattle.eq_build.specs.Entries.{with_terms}
 use Rattle.eq_build.specs.Views.{entries_in}
-use Rattle.table_steps.specs.Steps.{given_terms}
+use Rattle.eq_build.specs.Steps.{given_terms}
 use Rattle.tree_equations.specs.Answers.{signs_in, row_in}
 use Rattle.tree_equations.proofs.assigning.given_groups.Given as goal
 

@@ -1,7 +1,7 @@
 use Rattle.std.proofs.Common.{◌≡◌, drop}
 use Rattle.eq_build.specs.Entries.{with_terms}
 use Rattle.eq_build.specs.Views.{entries_in}
-use Rattle.table_steps.specs.Steps.{as_terms}
+use Rattle.eq_build.specs.Steps.{as_terms}
 use Rattle.tree_equations.proofs.assigning.put_all.Given as goal
 
 abbrev pub invariant-loop-entry : goal.invariant-loop-entry

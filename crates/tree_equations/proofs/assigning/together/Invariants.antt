@@ -1,7 +1,7 @@
 use Rattle.std.proofs.Common.{◌≡◌, drop, []}
 use Rattle.eq_build.specs.Entries.{with_terms}
 use Rattle.eq_build.specs.Views.{lists_in}
-use Rattle.table_steps.specs.Steps.{together}
+use Rattle.eq_build.specs.Steps.{together}
 use Rattle.tree_equations.proofs.assigning.together.Given as goal
 
 abbrev pub invariant-loop-list : goal.invariant-loop-list

@@ -9,7 +9,7 @@ use Rattle.eq_build.specs.declared.entries.Entry.{Entry}
 use Rattle.gts_core.specs.declared.system.Variable.{Variable}
 use Rattle.gts_core.specs.View.{variables_from}
 use Rattle.mode_trees.specs.declared.forests.ModeTree.{ModeTree}
-use Rattle.table_steps.specs.Steps.{first_reading, in_order}
+use Rattle.eq_build.specs.Steps.{first_reading, in_order}
 use Rattle.tree_equations.specs.Answers.{Entries, row_in, trees_in}
 use Rattle.tree_equations.proofs.FirstReading.{reading_or, first_from, first_step, first_done, IsPlaced, placed_put, placed_skip}
 use Rattle.tree_equations.proofs.first_rows.first_rows.Goals as goal

@@ -3,7 +3,7 @@ use Rattle.ar_base.specs.Lists.{Stands}
 use Rattle.eq_build.specs.BuildsInside.{most_gates}
 use Rattle.eq_build.specs.Views.{lists_in, row_at}
 use Rattle.gts_core.specs.View.{variables_from}
-use Rattle.table_steps.specs.Steps.{first_reading}
+use Rattle.eq_build.specs.Steps.{first_reading}
 use Rattle.tree_equations.specs.Answers.{Entries, trees_in}
 use Rattle.tree_equations.proofs.FirstReading.{reading_or}
 use Rattle.tree_equations.proofs.first_rows.first_rows.Given as goal

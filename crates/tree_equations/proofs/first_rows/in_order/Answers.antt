@@ -4,7 +4,7 @@ use Rattle.eq_core.specs.declared.joints.Gate.{Gate}
 use Rattle.eq_build.specs.BuildsInside.{most_gates}
 use Rattle.eq_build.specs.Entries.{Group, entries_of, with_terms}
 use Rattle.eq_build.specs.Views.{entry_of, entries_in, gates_in}
-use Rattle.table_steps.specs.Steps.{as_terms}
+use Rattle.eq_build.specs.Steps.{as_terms}
 use Rattle.tree_equations.proofs.FewGates.{order_makes_few}
 use Rattle.tree_equations.proofs.first_rows.in_order.Goals as goal
 

@@ -5,7 +5,7 @@ use Rattle.ar_base.specs.Lists as l
 use Rattle.ar_base.proofs.Standing.{one_here, stands_map, stands_item}
 use Rattle.ar_base.proofs.Items.{along_push}
 use Rattle.flow_blocks.specs.Table.{members_of}
-use Rattle.flow_blocks.specs.declared.graph.Block.{Block}
+use Rattle.flow_blocks.specs.declared.dependences.Block.{Block}
 use Rattle.tree_equations.specs.Blocks.{StandAtPlaces, ArePlacedBlocks, blocks_in}
 use Rattle.tree_equations.proofs.index.numbered_blocks.Goals as goal
 

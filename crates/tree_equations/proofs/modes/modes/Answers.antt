@@ -1,8 +1,8 @@
 use Rattle.std.proofs.Common.{Ok, Err}
 use Rattle.eq_build.specs.Views.{gates_in}
 use Rattle.eq_build.proofs.Places.{item_next}
-use Rattle.table_steps.specs.Steps.{Has_modes, modes_of}
-use Rattle.table_steps.specs.Steps as t
+use Rattle.eq_build.specs.Steps.{Has_modes, modes_of}
+use Rattle.eq_build.specs.Steps as t
 use Rattle.tree_equations.specs.Answers.{tree_in, row_in}
 use Rattle.tree_equations.proofs.Each.{each_start, each_next, each_stops, each_ends}
 use Rattle.tree_equations.proofs.Determined.{modes_one}

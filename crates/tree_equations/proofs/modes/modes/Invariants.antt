@@ -1,7 +1,7 @@
 use Rattle.std.proofs.Common.{◌≤◌, length}
 use Rattle.eq_build.specs.BuildsInside.{most_gates}
 use Rattle.eq_build.specs.Views.{gates_in}
-use Rattle.table_steps.specs.Steps.{Has_modes}
+use Rattle.eq_build.specs.Steps.{Has_modes}
 use Rattle.tree_equations.specs.Answers.{tree_in, row_in}
 use Rattle.tree_equations.proofs.Each.{Sofar}
 use Rattle.tree_equations.proofs.Determined.{modes_one}

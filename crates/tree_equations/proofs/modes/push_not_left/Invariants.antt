@@ -1,6 +1,6 @@
 use Rattle.std.proofs.Common.{◌≡◌, ◌++◌, drop}
 use Rattle.eq_build.specs.Views.{operands_in}
-use Rattle.table_steps.specs.Steps.{not_left}
+use Rattle.eq_build.specs.Steps.{not_left}
 use Rattle.tree_equations.specs.Answers.{edges_in}
 use Rattle.tree_equations.proofs.modes.push_not_left.Given as goal
 

@@ -9,7 +9,7 @@ use Rattle.eq_build.proofs.Places.{item_next}
 use Rattle.eq_build.proofs.Stopping.{stops_up, entries_passed_on}
 use Rattle.mode_trees.specs.Views.{edge_row}
 use Rattle.mode_trees.specs.declared.forests.Edge.{Edge}
-use Rattle.table_steps.specs.Steps.{modes_of, entered, not_left}
+use Rattle.eq_build.specs.Steps.{modes_of, entered, not_left}
 use Rattle.tree_equations.specs.Answers.{edges_in, tree_in, plain}
 use Rattle.tree_equations.proofs.Rising.{entered_more, edge_stops}
 use Rattle.tree_equations.proofs.modes.tree_modes.Goals as goal

@@ -2,7 +2,7 @@ use Rattle.std.proofs.Common.{◌≡◌, ◌≤◌, ◌++◌, drop, length}
 use Rattle.eq_build.specs.Entries.{Built}
 use Rattle.eq_build.specs.BuildsInside.{most_gates}
 use Rattle.eq_build.specs.Views.{entries_in, gates_in}
-use Rattle.table_steps.specs.Steps.{modes_of, entered}
+use Rattle.eq_build.specs.Steps.{modes_of, entered}
 use Rattle.tree_equations.specs.Answers.{edges_in, tree_in}
 use Rattle.tree_equations.proofs.modes.tree_modes.Given as goal
 

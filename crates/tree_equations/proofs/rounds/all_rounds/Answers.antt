@@ -4,7 +4,7 @@ use Rattle.ar_base.proofs.Items.{none_left}
 use Rattle.eq_build.specs.Views.{gates_in, row_at}
 use Rattle.eq_build.proofs.Places.{item_next}
 use Rattle.gts_core.specs.View.{net_of}
-use Rattle.table_steps.specs.Steps.{Rounds, All_rounds}
+use Rattle.eq_build.specs.Steps.{Rounds, All_rounds}
 use Rattle.tree_equations.specs.Answers.{TooMany}
 use Rattle.tree_equations.specs.Blocks.{blocks_in}
 use Rattle.tree_equations.specs.Index.{AreUnder}

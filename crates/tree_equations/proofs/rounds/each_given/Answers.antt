@@ -5,7 +5,7 @@ use Rattle.domains.specs.Domains.{values_of}
 use Rattle.eq_build.specs.Views.{gates_in, row_at, StopsBuilding}
 use Rattle.gts_core.specs.View.{assign_of}
 use Rattle.gts_core.specs.declared.system.Assign.{Assign}
-use Rattle.table_steps.specs.Steps.{Gives_target}
+use Rattle.eq_build.specs.Steps.{Gives_target}
 use Rattle.tree_equations.specs.Answers.{TooMany, row_in}
 use Rattle.tree_equations.proofs.Each.{each_start, each_next, each_stops, each_ends}
 use Rattle.tree_equations.proofs.Determined.{given_one}

@@ -4,7 +4,7 @@ use Rattle.eq_build.specs.BuildsInside.{most_gates}
 use Rattle.eq_build.specs.Views.{gates_in, row_at}
 use Rattle.gts_core.specs.View.{assign_of}
 use Rattle.gts_core.specs.declared.system.Assign.{Assign}
-use Rattle.table_steps.specs.Steps.{Gives_target}
+use Rattle.eq_build.specs.Steps.{Gives_target}
 use Rattle.tree_equations.specs.Answers.{row_in}
 use Rattle.tree_equations.specs.Index.{AreNumbersOf}
 use Rattle.tree_equations.proofs.Each.{Sofar}

@@ -4,7 +4,7 @@ use Rattle.eq_build.specs.Entries.{Group, entries_of, entries_for, with_terms}
 use Rattle.eq_build.specs.Views.{gates_in, row_at, lists_in, MakesEntries}
 use Rattle.gts_core.specs.View.{net_of, assign_of}
 use Rattle.gts_core.specs.declared.system.Assign.{Assign}
-use Rattle.table_steps.specs.Steps.{Threads, Gives_target, RoundOf, together}
+use Rattle.eq_build.specs.Steps.{Threads, Gives_target, RoundOf, together}
 use Rattle.tree_equations.specs.Answers.{TooMany, row_in, Entries}
 use Rattle.tree_equations.specs.Index.{to_target, AreNumbersOf}
 use Rattle.ar_base.proofs.Standing.{stands_item}

@@ -4,7 +4,7 @@ use Rattle.ar_base.proofs.Standing.{stands_get, one_here}
 use Rattle.eq_build.specs.Views.{gates_in, row_at}
 use Rattle.eq_build.proofs.Places.{item_next}
 use Rattle.gts_core.specs.View.{net_of}
-use Rattle.table_steps.specs.Steps.{RoundOf}
+use Rattle.eq_build.specs.Steps.{RoundOf}
 use Rattle.tree_equations.specs.Answers.{row_in, itself}
 use Rattle.tree_equations.proofs.Each.{each_start, each_next, each_stops, each_ends}
 use Rattle.tree_equations.proofs.Determined.{round_one}

@@ -2,7 +2,7 @@ use Rattle.std.proofs.Common.{◌≤◌, length}
 use Rattle.eq_build.specs.BuildsInside.{most_gates}
 use Rattle.eq_build.specs.Views.{gates_in, row_at}
 use Rattle.gts_core.specs.View.{net_of}
-use Rattle.table_steps.specs.Steps.{RoundOf}
+use Rattle.eq_build.specs.Steps.{RoundOf}
 use Rattle.tree_equations.specs.Answers.{row_in, itself}
 use Rattle.tree_equations.proofs.Each.{Sofar}
 use Rattle.tree_equations.proofs.Determined.{round_one}

@@ -2,7 +2,7 @@ use Rattle.std.proofs.Common.{◌≡◌, ℕ, List, length, map, rules, true≢f
 use Rattle.std.proofs.lemmas.List.{length-map}
 use Rattle.eq_build.specs.Views.{gates_in, row_at, lists_in}
 use Rattle.gts_core.specs.View.{net_of}
-use Rattle.table_steps.specs.Steps.{Reading, Threads, RoundOf, Rounds, updated}
+use Rattle.eq_build.specs.Steps.{Reading, Threads, RoundOf, Rounds, updated}
 use Rattle.tree_equations.specs.Answers.{TooMany, Entries, itself}
 use Rattle.tree_equations.proofs.Flowing.{rounds_start, rounds_next, rounds_stop, rounds_over, rounds_still, threads_long, itself_all}
 use Rattle.tree_equations.proofs.Giving.{gives_on}

@@ -2,7 +2,7 @@ use Rattle.std.proofs.Common.{◌≡◌, ◌-◌, ◌≤◌, true, length}
 use Rattle.eq_build.specs.BuildsInside.{most_gates}
 use Rattle.eq_build.specs.Views.{gates_in, row_at}
 use Rattle.gts_core.specs.View.{net_of}
-use Rattle.table_steps.specs.Steps.{Rounds}
+use Rattle.eq_build.specs.Steps.{Rounds}
 use Rattle.tree_equations.proofs.Flowing.{RoundsSoFar}
 use Rattle.tree_equations.proofs.rounds.rounds.Given as goal
 

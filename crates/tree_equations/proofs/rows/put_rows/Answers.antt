@@ -3,7 +3,7 @@ use Rattle.std.proofs.Math.Path.{fun_ext}
 use Rattle.ar_base.proofs.Standing.{stands_get, one_here}
 use Rattle.std.proofs.lemmas.List.{length_push, length-set, get_or_default}
 use Rattle.eq_build.specs.Views.{row_at, lists_in}
-use Rattle.table_steps.specs.Steps.{updated}
+use Rattle.eq_build.specs.Steps.{updated}
 use Rattle.tree_equations.proofs.RowsPut.{put_step, put_done}
 use Rattle.tree_equations.proofs.rows.put_rows.Goals as goal
 

@@ -1,6 +1,6 @@
 use Rattle.std.proofs.Common.{◌≡◌, ◌≤◌, ℕ, length, take, vec_len}
 use Rattle.eq_build.specs.Views.{lists_in, row_at}
-use Rattle.table_steps.specs.Steps.{updated}
+use Rattle.eq_build.specs.Steps.{updated}
 use Rattle.tree_equations.proofs.rows.put_rows.Given as goal
 
 abbrev pub invariant-loop-row : goal.invariant-loop-row

@@ -4,8 +4,8 @@ use Rattle.eq_build.specs.Entries.{Entry, one_of_alls}
 use Rattle.eq_build.specs.Views.{gates_in, row_at, entries_in, terms_in, MakesOperand}
 use Rattle.eq_build.proofs.Reading.{row_here}
 use Rattle.gts_core.specs.View.{assign_of}
-use Rattle.table_steps.specs.Steps.{Sees_broken, broken_terms}
-use Rattle.table_steps.specs.Steps as t
+use Rattle.eq_build.specs.Steps.{Sees_broken, broken_terms}
+use Rattle.eq_build.specs.Steps as t
 use Rattle.tree_equations.specs.Answers.{TooMany, signs_in, row_in}
 use Rattle.tree_equations.proofs.Determined.{broken_one}
 use Rattle.tree_equations.proofs.Giving.{operand_gives, gives_on}

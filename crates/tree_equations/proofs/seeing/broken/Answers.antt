@@ -3,7 +3,7 @@ use Rattle.eq_core.specs.Views.{operand_of}
 use Rattle.eq_build.specs.Views.{gates_in, row_at}
 use Rattle.eq_build.proofs.Places.{item_next}
 use Rattle.gts_core.specs.View.{assign_of}
-use Rattle.table_steps.specs.Steps.{Sees_broken}
+use Rattle.eq_build.specs.Steps.{Sees_broken}
 use Rattle.tree_equations.proofs.Each.{each_start, each_next, each_stops, each_ends}
 use Rattle.tree_equations.proofs.Determined.{broken_one}
 use Rattle.tree_equations.proofs.Rising.{broken_more}

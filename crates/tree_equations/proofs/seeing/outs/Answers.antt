@@ -8,7 +8,7 @@ use Rattle.eq_build.specs.Views.{gates_in, row_at, StopsBuilding}
 use Rattle.gts_core.specs.View.{assign_of, variable_of}
 use Rattle.gts_core.specs.declared.system.Variable.{Variable}
 use Rattle.gts_core.specs.declared.system.Assign.{Assign}
-use Rattle.table_steps.specs.Steps.{Threads, Sees_outside}
+use Rattle.eq_build.specs.Steps.{Threads, Sees_outside}
 use Rattle.tree_equations.specs.Answers.{TooMany, Gives, signs_in}
 use Rattle.tree_equations.proofs.Each.{as_is, all_as_is, each_start, each_next, each_stops, each_ends}
 use Rattle.tree_equations.proofs.Determined.{out_one}

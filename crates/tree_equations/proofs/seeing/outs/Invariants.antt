@@ -4,7 +4,7 @@ use Rattle.ar_meaning.specs.Systems as s
 use Rattle.eq_core.specs.Views.{operand_of}
 use Rattle.eq_build.specs.BuildsInside.{most_gates}
 use Rattle.eq_build.specs.Views.{gates_in, row_at}
-use Rattle.table_steps.specs.Steps.{Sees_outside}
+use Rattle.eq_build.specs.Steps.{Sees_outside}
 use Rattle.tree_equations.specs.Index.{IsLeaving}
 use Rattle.tree_equations.proofs.Each.{Sofar, as_is}
 use Rattle.tree_equations.proofs.Determined.{out_one}

@@ -1,6 +1,6 @@
 use Rattle.std.proofs.Common.{◌≡◌, ◌++◌, drop}
 use Rattle.eq_build.specs.Views.{entries_in, terms_in}
-use Rattle.table_steps.specs.Steps.{pairs_in}
+use Rattle.eq_build.specs.Steps.{pairs_in}
 use Rattle.tree_equations.proofs.seeing.pairs.Given as goal
 
 abbrev pub invariant-loop-n : goal.invariant-loop-n

@@ -6,7 +6,7 @@ use Rattle.eq_core.specs.declared.joints.Operand.TheVariants.{Always}
 use Rattle.eq_core.specs.declared.joints.Operand as sign
 use Rattle.eq_build.specs.Views.{operands_in, entries_in, entry_of, terms_in}
 use Rattle.eq_build.specs.declared.entries.Entry.{Entry}
-use Rattle.table_steps.specs.Steps.{others_with}
+use Rattle.eq_build.specs.Steps.{others_with}
 use Rattle.tree_equations.proofs.SeeingLemmas.{others_put, others_skip}
 use Rattle.tree_equations.proofs.seeing.push_others.Goals as goal
 use Rattle.tree_equations.proofs.seeing.push_others.Goals.{then-ne+in_ok-term+in_ok-push, else-ne}

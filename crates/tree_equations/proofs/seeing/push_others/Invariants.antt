@@ -1,6 +1,6 @@
 use Rattle.std.proofs.Common.{◌≡◌, ◌++◌, drop}
 use Rattle.eq_build.specs.Views.{entry_of, entries_in, operands_in, terms_in}
-use Rattle.table_steps.specs.Steps.{others_with}
+use Rattle.eq_build.specs.Steps.{others_with}
 use Rattle.tree_equations.proofs.seeing.push_others.Given as goal
 
 abbrev pub invariant-loop-other : goal.invariant-loop-other

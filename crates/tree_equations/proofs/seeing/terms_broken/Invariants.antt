@@ -1,6 +1,6 @@
 use Rattle.std.proofs.Common.{◌≡◌, ◌++◌, drop}
 use Rattle.eq_build.specs.Views.{entries_in, terms_in}
-use Rattle.table_steps.specs.Steps.{broken_terms}
+use Rattle.eq_build.specs.Steps.{broken_terms}
 use Rattle.tree_equations.specs.Answers.{signs_in, row_in}
 use Rattle.tree_equations.proofs.seeing.terms_broken.Given as goal
 

@@ -5,7 +5,7 @@ use Rattle.eq_core.specs.Views.{operand_of}
 use Rattle.eq_core.specs.declared.joints.Operand as sign
 use Rattle.eq_build.specs.Views.{operands_in, entries_in, terms_in}
 use Rattle.eq_build.specs.declared.entries.Entry.{Entry}
-use Rattle.table_steps.specs.Steps.{outside_terms}
+use Rattle.eq_build.specs.Steps.{outside_terms}
 use Rattle.tree_equations.specs.Answers.{signs_in, row_in}
 use Rattle.tree_equations.proofs.SeeingLemmas.{outside_put, outside_skip, never_true}
 use Rattle.tree_equations.proofs.seeing.terms_outside.Goals as goal

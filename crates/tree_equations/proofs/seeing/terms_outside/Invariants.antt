@@ -1,7 +1,7 @@
 use Rattle.std.proofs.Common.{◌≡◌, ◌++◌, drop}
 use Rattle.domains.specs.Domains.{values_of}
 use Rattle.eq_build.specs.Views.{entries_in, terms_in}
-use Rattle.table_steps.specs.Steps.{outside_terms}
+use Rattle.eq_build.specs.Steps.{outside_terms}
 use Rattle.tree_equations.specs.Answers.{signs_in, row_in}
 use Rattle.tree_equations.proofs.seeing.terms_outside.Given as goal
 

@@ -7,8 +7,8 @@ use Rattle.eq_build.specs.Views.{gates_in, row_at, entries_in, terms_in, MakesOp
 use Rattle.eq_build.specs.declared.entries.BuildFault.{BuildFault}
 use Rattle.eq_build.proofs.Places.{item_next}
 use Rattle.eq_build.proofs.Reading.{row_here}
-use Rattle.table_steps.specs.Steps.{Sees_two, pairs_in}
-use Rattle.table_steps.specs.Steps as t
+use Rattle.eq_build.specs.Steps.{Sees_two, pairs_in}
+use Rattle.eq_build.specs.Steps as t
 use Rattle.tree_equations.specs.Answers.{itself, row_in}
 use Rattle.tree_equations.proofs.Each.{each_start, each_next, each_stops, each_ends}
 use Rattle.tree_equations.proofs.Determined.{two_one}

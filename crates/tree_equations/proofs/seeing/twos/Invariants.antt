@@ -2,7 +2,7 @@ use Rattle.std.proofs.Common.{◌≤◌, length}
 use Rattle.eq_core.specs.Views.{operand_of}
 use Rattle.eq_build.specs.BuildsInside.{most_gates}
 use Rattle.eq_build.specs.Views.{gates_in, row_at}
-use Rattle.table_steps.specs.Steps.{Sees_two}
+use Rattle.eq_build.specs.Steps.{Sees_two}
 use Rattle.tree_equations.specs.Answers.{itself}
 use Rattle.tree_equations.proofs.Each.{Sofar}
 use Rattle.tree_equations.proofs.Determined.{two_one}

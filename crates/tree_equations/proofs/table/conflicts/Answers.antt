@@ -9,7 +9,7 @@ use Rattle.eq_build.specs.Views.{gates_in, row_at, operands_in, lists_in, MakesO
 use Rattle.gts_core.specs.View.{net_of, assign_of, variables_from}
 use Rattle.gts_core.specs.declared.system.Variable.{Variable}
 use Rattle.gts_core.specs.declared.system.Assign.{Assign}
-use Rattle.table_steps.specs.Steps.{Threads, Sees_two, Sees_outside, Totals_of, Sees_broken, updated, flows_from}
+use Rattle.eq_build.specs.Steps.{Threads, Sees_two, Sees_outside, Totals_of, Sees_broken, updated, flows_from}
 use Rattle.tree_equations.specs.Answers.{TooMany, Entries, signs_in, itself}
 use Rattle.tree_equations.specs.Index.{IsLeaving}
 use Rattle.tree_equations.specs.Seen.{Conflicting}

@@ -3,7 +3,7 @@ use Rattle.std.proofs.lemmas.List.{length-map}
 use Rattle.ar_base.specs.Lists.{IsOneOf}
 use Rattle.ar_meaning.specs.Dependence.{flow_count}
 use Rattle.flow_blocks.specs.Table.{members_of}
-use Rattle.flow_blocks.specs.declared.graph.Block.{Block}
+use Rattle.flow_blocks.specs.declared.dependences.Block.{Block}
 use Rattle.flow_propagate.specs.Plan as plan
 use Rattle.typed_expr.specs.declared.expr.Expr.{out-Expr}
 use Rattle.eq_core.specs.Gates.{Operand, Table}
@@ -18,8 +18,8 @@ use Rattle.gts_core.proofs.Viewing.{are_numbered, variables_long}
 use Rattle.gts_core.specs.declared.system.Variable.{Variable}
 use Rattle.gts_core.specs.declared.system.GtsParts.{GtsParts}
 use Rattle.mode_trees.specs.declared.forests.ModeTree.{ModeTree}
-use Rattle.table_steps.specs.Steps.{Reading, Threads, Has_modes, All_rounds, AreBlocks, first_reading, flows_from}
-use Rattle.table_steps.specs.Table.{IsTable}
+use Rattle.eq_build.specs.Steps.{Reading, Threads, Has_modes, All_rounds, AreBlocks, first_reading, flows_from}
+use Rattle.eq_build.specs.Table.{IsTable}
 use Rattle.gts_core.specs.View.{variables_from}
 use Rattle.tree_equations.specs.Answers.{TooMany, Entries, row_in, trees_in, tree_in}
 use Rattle.tree_equations.specs.Blocks.{blocks_in, ArePlacedBlocks}

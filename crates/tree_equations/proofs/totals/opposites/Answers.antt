@@ -7,7 +7,7 @@ use Rattle.eq_core.specs.declared.joints.Operand as sign
 use Rattle.eq_build.specs.Entries as e
 use Rattle.eq_build.specs.Views.{operands_in, entry_of, entries_in}
 use Rattle.eq_build.specs.declared.entries.Entry.{Entry}
-use Rattle.table_steps.specs.Steps.{opposites}
+use Rattle.eq_build.specs.Steps.{opposites}
 use Rattle.tree_equations.proofs.totals.opposites.Goals as goal
 use Rattle.tree_equations.proofs.totals.opposites.Goals.{in-Always, in-Never, in-Event, in-Gate}
 

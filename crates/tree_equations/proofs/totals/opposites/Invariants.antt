@@ -1,6 +1,6 @@
 use Rattle.std.proofs.Common.{◌≡◌, take}
 use Rattle.eq_build.specs.Views.{operands_in, entries_in}
-use Rattle.table_steps.specs.Steps.{opposites}
+use Rattle.eq_build.specs.Steps.{opposites}
 use Rattle.tree_equations.proofs.totals.opposites.Given as goal
 
 abbrev pub invariant-loop-entry : goal.invariant-loop-entry

@@ -4,7 +4,7 @@ use Rattle.eq_build.specs.BuildsInside.{most_gates}
 use Rattle.eq_build.specs.Views.{gates_in, entries_in, operands_in}
 use Rattle.eq_build.proofs.Growing.{longer_on, terms_more}
 use Rattle.eq_build.proofs.Stopping.{stops_up, entries_passed_on}
-use Rattle.table_steps.specs.Steps.{total_of, opposites, as_terms}
+use Rattle.eq_build.specs.Steps.{total_of, opposites, as_terms}
 use Rattle.tree_equations.proofs.totals.total.Goals as goal
 
 pub returns-in_err-none : goal.returns-in_err-none

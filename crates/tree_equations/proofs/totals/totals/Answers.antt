@@ -7,8 +7,8 @@ use Rattle.eq_build.specs.Entries as e
 use Rattle.eq_build.proofs.Reading.{row_here}
 use Rattle.gts_core.specs.View.{variables_from, variable_of}
 use Rattle.gts_core.specs.declared.system.Variable.{Variable}
-use Rattle.table_steps.specs.Steps.{Threads, Totals_of, total_of, flows_from}
-use Rattle.table_steps.specs.Steps as t
+use Rattle.eq_build.specs.Steps.{Threads, Totals_of, total_of, flows_from}
+use Rattle.eq_build.specs.Steps as t
 use Rattle.tree_equations.specs.Answers.{TooMany, Gives, row_in, rows_in}
 use Rattle.tree_equations.proofs.Each.{as_is, all_as_is, each_start, each_next, each_stops, each_ends}
 use Rattle.tree_equations.proofs.Determined.{total_one}

@@ -2,7 +2,7 @@ use Rattle.std.proofs.Common.{◌≤◌, length}
 use Rattle.eq_build.specs.BuildsInside.{most_gates}
 use Rattle.eq_build.specs.Views.{gates_in, row_at}
 use Rattle.gts_core.specs.View.{variables_from}
-use Rattle.table_steps.specs.Steps.{Totals_of, flows_from}
+use Rattle.eq_build.specs.Steps.{Totals_of, flows_from}
 use Rattle.tree_equations.specs.Answers.{row_in}
 use Rattle.tree_equations.proofs.Each.{Sofar, as_is}
 use Rattle.tree_equations.proofs.Determined.{total_one}

@@ -2,7 +2,7 @@ use Rattle.std.proofs.Common.{◌≡◌, ◌<◌, ◌∙◌, ◌++◌, ◌∷◌
 use Rattle.ar_base.specs.Lists.{Stands}
 use Rattle.ar_base.specs.Numbers.{WayId}
 use Rattle.ar_base.proofs.Truths.{not_equal}
-use Rattle.part_flags.specs.Parts.{flag_at}
+use Rattle.way_flags.specs.Parts.{flag_at}
 use Rattle.way_flags.specs.Ways.{can_by}
 use Rattle.way_flags.specs.Renewing.{AreFlagsSettled, AreTurned, AreLooked, WaitsAt}
 use Rattle.way_flags.proofs.Lists.{read_stands}

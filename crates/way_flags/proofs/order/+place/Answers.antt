@@ -1,6 +1,6 @@
 use Rattle.std.proofs.Common.{◌≡◌, ◌+◌, ◌∙◌, true, false, Bool, List, sym, ap, subst, arith, get_or}
 use Rattle.ar_base.proofs.Standing.{stands_get}
-use Rattle.part_flags.specs.Parts.{flag_at}
+use Rattle.way_flags.specs.Parts.{flag_at}
 use Rattle.way_flags.specs.Ways.{IsPlacing, KeepsMarks, ArePartsPlaced}
 use Rattle.way_flags.specs.declared.order.Placing.{Placing}
 use Rattle.way_flags.proofs.Heights.{part_low}

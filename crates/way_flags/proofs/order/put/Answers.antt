@@ -1,7 +1,7 @@
 use Rattle.std.proofs.Common.{◌≡◌, ◌++◌, ◌∷◌, [], true, false, Bool, List, set, sym, ap, ◌∙◌, subst, arith}
 use Rattle.ar_base.proofs.Standing.{stands_some}
 use Rattle.ar_base.specs.Numbers.{WayId}
-use Rattle.part_flags.specs.Parts.{flag_at}
+use Rattle.way_flags.specs.Parts.{flag_at}
 use Rattle.way_flags.specs.Ways.{IsPlacing}
 use Rattle.way_flags.proofs.Lists.{flag_kept, flag_same}
 use Rattle.way_flags.proofs.Placing.{place_more}

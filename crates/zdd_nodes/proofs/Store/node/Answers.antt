@@ -1,5 +1,5 @@
 use Rattle.std.proofs.Common.{arith, ◌≡◌, ◌+◌, ◌++◌, ◌∷◌, [], length, sym, ap, ◌∙◌, cond, refl}
-use Rattle.zdd_families.specs.SectionsInside.{IsMade}
+use Rattle.zdd_nodes.specs.SectionsInside.{IsMade}
 use Rattle.zdd_nodes.specs.Nodes.MakesFamily.{known}
 use Rattle.zdd_nodes.specs.declared.Node.{Node}
 use Rattle.zdd_nodes.proofs.Stored.{IsCall}

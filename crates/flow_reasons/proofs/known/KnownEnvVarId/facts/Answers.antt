@@ -1,7 +1,7 @@
 use Rattle.std.proofs.Common.{◌≡◌, ◌+◌, ◌-◌, ℕ, Bool, true, [], take, drop, slice_get, if◌then◌else◌, sym, ap, ◌∙◌, subst, arith}
 use Rattle.gts_core.specs.Readings.{valuation_values}
 use Rattle.gts_core.proofs.Reading.{one_there, one_past}
-use Rattle.fact_marks.specs.Marks.{is_fact_found}
+use Rattle.flow_reasons.specs.FactMarks.{is_fact_found}
 use Rattle.flow_reasons.proofs.known.KnownEnvVarId.facts.Goals as goal
 
 pub returns-then-place-self : goal.returns-then-place-self

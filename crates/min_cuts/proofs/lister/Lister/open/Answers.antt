@@ -3,7 +3,7 @@ use Rattle.ar_base.specs.Lists.{AreDifferent}
 use Rattle.ar_base.specs.Lists.Along.{none as nothing}
 use Rattle.ar_base.specs.NumbersInside.{EventId}
 use Rattle.mode_trees.specs.Views.{trees_of}
-use Rattle.zdd_families.specs.Families.{Family}
+use Rattle.zdd_nodes.specs.Families.{Family}
 use Rattle.zdd_nodes.specs.Nodes.{family}
 use Rattle.min_cuts.specs.Lines.{AreInFiringOrder}
 use Rattle.min_cuts.specs.Kept.{numbers_of_set, AreEventPlaces}

@@ -1,9 +1,9 @@
 use Rattle.std.proofs.Common.{◌≡◌, Bool, true, List, length, reverse, sym, ap, ◌∙◌, subst}
 use Rattle.domains.specs.declared.Value.{Value}
 use Rattle.gts_core.specs.declared.system.GtsParts.{GtsParts}
-use Rattle.value_changes.specs.Changes.{AreChanges}
-use Rattle.value_changes.specs.Restoring.{restored}
-use Rattle.value_changes.proofs.Found.{changes_back}
+use Rattle.flow_changes.specs.Changes.{AreChanges}
+use Rattle.flow_changes.specs.Restoring.{restored}
+use Rattle.flow_changes.proofs.Found.{changes_back}
 use Rattle.ar_base.specs.Lists.{Stands}
 use Rattle.way_flags.specs.Turning.{flags_turned}
 use Rattle.stepper.specs.Changes.{Point, IsPoint, point_at, before, AreToldSteps}

@@ -1,6 +1,6 @@
 use Rattle.std.proofs.Common.{◌≡◌, Err, subst, ◌⊎◌}
-use Rattle.zdd_families.specs.FamiliesInside.{union}
-use Rattle.zdd_families.specs.Sections.{IsMoreThan, IsCounted}
+use Rattle.zdd_nodes.specs.FamiliesInside.{union}
+use Rattle.zdd_nodes.specs.Sections.{IsMoreThan, IsCounted}
 use Rattle.zdd_nodes.specs.Nodes.{family, Stored, IsStored}
 use Rattle.zdd_nodes.specs.declared.NodeFault.TheVariants.{Full}
 use Rattle.zdd_nodes.proofs.Limits.{more_than_limit}

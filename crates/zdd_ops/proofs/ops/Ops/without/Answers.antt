@@ -1,5 +1,5 @@
 use Rattle.std.proofs.Common.{◌≡◌, Err, subst, ◌⊎◌}
-use Rattle.zdd_families.specs.Sections.{IsMoreThan, IsPartOfBoth}
+use Rattle.zdd_nodes.specs.Sections.{IsMoreThan, IsPartOfBoth}
 use Rattle.zdd_nodes.specs.Nodes.{family, Stored, IsStored}
 use Rattle.zdd_nodes.specs.declared.NodeFault.TheVariants.{Full}
 use Rattle.zdd_nodes.proofs.Limits.{more_than_limit}

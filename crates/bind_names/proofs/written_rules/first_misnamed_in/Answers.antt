@@ -1,0 +1,5 @@
+use Rattle.bind_names.proofs.RulesWhole.{tree_names}
+use Rattle.bind_names.proofs.written_rules.first_misnamed_in.Goals as goal
+
+pub returns : goal.returns
+returns c = λ m units are. tree_names m units c.first_in.result (c.first_in.ensures m units are)

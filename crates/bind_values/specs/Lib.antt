@@ -1,6 +1,0 @@
-pub mod Keeping
-pub mod Known
-pub mod Leaves
-pub mod Settled
-pub mod Typed
-pub mod Values

@@ -1,6 +1,0 @@
-use Rattle.binding_laws.proofs.OneBinding.{binding_one}
-use Rattle.binding_laws.proofs.bindings.one_binding_or_refusal.Goals as goal
-
-pub returns : goal.returns
-returns c =
-    binding_one c.agreement_opens.ensures.form c.agreement_opens.ensures.step c.agreement_opens.ensures.kind

@@ -1,6 +1,0 @@
-use Rattle.std.proofs.Common.{take}
-use Rattle.fact_marks.specs.Marks.{MarksAll}
-use Rattle.fact_marks.proofs.mark_all.Given as goal
-
-abbrev pub invariant-loop-n : goal.invariant-loop-n
-invariant-loop-n l = MarksAll l.parts (take l.n-index l.bringing) l.round l.initial.marks l.marks l.fresh.items

@@ -1,2 +1,0 @@
-mod Others
-mod Starting

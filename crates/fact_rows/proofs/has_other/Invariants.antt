@@ -1,6 +1,0 @@
-use Rattle.std.proofs.Common.{take}
-use Rattle.ar_base.specs.ListsInside.{HasOther}
-use Rattle.fact_rows.proofs.has_other.Given as goal
-
-abbrev pub invariant-loop-w : goal.invariant-loop-w
-invariant-loop-w l = HasOther (take l.w-index l.values) l.v → ⊥

@@ -1,6 +1,0 @@
-use Rattle.std.proofs.Common.{◌≡◌, false, take}
-use Rattle.part_flags.specs.Parts.{has_must_in}
-use Rattle.part_flags.proofs.has_must.Given as goal
-
-abbrev pub invariant-loop-must : goal.invariant-loop-must
-invariant-loop-must l = has_must_in (take l.must-index l.parts) ≡ false

@@ -1,6 +1,0 @@
-use Rattle.std.proofs.Common.{◌≡◌, true, take}
-use Rattle.part_flags.specs.Parts.{musts_by}
-use Rattle.part_flags.proofs.musts_can.Given as goal
-
-abbrev pub invariant-loop-must : goal.invariant-loop-must
-invariant-loop-must l = musts_by l.flags (take l.must-index l.parts) ≡ true

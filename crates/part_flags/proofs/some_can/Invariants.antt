@@ -1,6 +1,0 @@
-use Rattle.std.proofs.Common.{◌≡◌, false, take}
-use Rattle.part_flags.specs.Parts.{some_by}
-use Rattle.part_flags.proofs.some_can.Given as goal
-
-abbrev pub invariant-loop-way : goal.invariant-loop-way
-invariant-loop-way l = some_by l.flags (take l.way-index l.parts) ≡ false

@@ -1,4 +1,0 @@
-mod Depth
-mod Dropped
-mod PlacesTold
-mod Upward

@@ -1,4 +1,0 @@
-pub mod Blocks
-pub mod Same
-pub mod Uses
-pub mod Existing

@@ -1,5 +1,0 @@
-pub mod Picks
-pub mod Coding
-pub mod Restored
-pub mod Turns
-pub mod Found

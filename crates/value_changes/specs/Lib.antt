@@ -1,4 +1,0 @@
-pub mod Changes
-pub mod Codes
-pub mod Picking
-pub mod Restoring

@@ -4,7 +4,6 @@ use Rattle.std.proofs.lemmas.Option.{same_Some}
 use Rattle.ar_base.specs.Lists.{Stands, IsOneOf, Along}
 use Rattle.ar_base.specs.declared.places.Place.{Place}
 use Rattle.ar_base.proofs.Standing.{one_here}
-use Rattle.ar_base.proofs.Comparing.{not_before}
 use Rattle.ar_syntax.specs.declared.members.Member.{out-Member}
 use Rattle.ar_syntax.specs.declared.members.Member.TheOpen as member
 use Rattle.ar_syntax.specs.declared.members.TypeForm.{TypeForm}
@@ -17,7 +16,6 @@ use Rattle.class_table.specs.Shown.{put_inside, inside_form, inside_type, NamesR
 use Rattle.class_table.specs.declared.tables.Body.{Body}
 use Rattle.class_table.specs.declared.tables.Owned.{Owned}
 use Rattle.class_table.specs.declared.tables.Owned.TheVariants.{Plain, Nested}
-use Rattle.class_table.specs.Earliest.{IsEarliest, nowhere, there}
 use Rattle.class_table.proofs.Looping.{AtItem}
 use Rattle.class_table.proofs.OwnAt.{own_shown, shown_back}
 
@@ -125,27 +123,18 @@ module _ (d : Declared) (bodies : List Body) (shown : Along IsBodyOf bodies d.bo
         },
       )
 
--- a member that puts no class inside, at a place
-pub again_none : (d : Declared) (body : ℕ) (o : Owned) → ((c : ℕ) (p : Place) → put_inside d o ≡ Some (c, Some p) → ⊥)
-    → IsEarliest (NamesRound d body o) None
-again_none d body o n = nowhere (λ p h. n h.class p h.names)
+-- a member that puts a class inside, at a place
+module _ (d : Declared) (body : ℕ) (o : Owned) (class : ℕ) (opt : Option Place) (at p : Place)
+    (names : put_inside d o ≡ Some (class, opt)) (is : opt ≡ Some at) where
+  named_so : put_inside d o ≡ Some (class, Some at)
+  named_so = names ∙ ap (λ (q : Option Place). Some (class, q)) is
 
--- a member that puts nothing inside, or a block, names no class
-pub again_no_body : (d : Declared) (body : ℕ) (o : Owned) → None ≡ put_inside d o → IsEarliest (NamesRound d body o) None
-again_no_body d body o e = again_none d body o (λ c p f. let g = e ∙ f in cc)
+  pub not_inside : IsOneOf (own_at d body) o → NamesRound d body o p
+      → (HasInside d body class → IsWithin d class body → ⊥) → ⊥
+  not_inside one h n =
+      let g = same_Some _ _ (sym h.names ∙ named_so) in
+      let e : h.class ≡ class = ap (λ (z : ℕ × Option Place). z.0) g in
+      n (owned_inside d body class o (Some at) one named_so) (subst (λ (k : ℕ). IsWithin d k body) e h.again)
 
-pub again_no_name : (d : Declared) (body : ℕ) (o : Owned) (c : ℕ) (at : Option Place) → at ≡ None
-    → Some (c, at) ≡ put_inside d o → IsEarliest (NamesRound d body o) None
-again_no_name d body o c at e f = again_none d body o (λ k p g. let h = same_Some _ _ (f ∙ g) in let i = ap (λ (z : ℕ × Option Place). z.1) h in cc)
-
-pub again_there : (d : Declared) (body : ℕ) (o : Owned) (c : ℕ) (at : Place) → put_inside d o ≡ Some (c, Some at)
-    → IsWithin d c body → IsEarliest (NamesRound d body o) (Some at)
-again_there d body o c at e w = there (record { class = c; names = e; again = w })
-    (λ q b h. not_before q at b (same q h))
-  where
-    same : (q : Place) → NamesRound d body o q → q ≡ at
-    same q h = let g = same_Some _ _ (sym h.names ∙ e) in same_Some _ _ (ap (λ (z : ℕ × Option Place). z.1) g)
-
-pub again_not : (d : Declared) (body : ℕ) (o : Owned) (c : ℕ) (at : Place) → put_inside d o ≡ Some (c, Some at)
-    → (IsWithin d c body → ⊥) → IsEarliest (NamesRound d body o) None
-again_not d body o c at e n = nowhere (λ p h. let g = ap (λ (z : ℕ × Option Place). z.0) (same_Some _ _ (sym h.names ∙ e)) in n (subst (λ (x : ℕ). IsWithin d x body) g h.again))
+  pub names_at : NamesRound d body o p → p ≡ at
+  names_at h = same_Some _ _ (ap (λ (z : ℕ × Option Place). z.1) (same_Some _ _ (sym h.names ∙ named_so)))

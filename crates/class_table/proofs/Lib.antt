@@ -27,3 +27,5 @@ pub mod Ordered
 pub mod Rowed
 pub mod Retested
 pub mod GivenNames
+pub mod Beside
+pub mod Ranked

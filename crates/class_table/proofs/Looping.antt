@@ -1,5 +1,5 @@
 -- Loops that look for the earliest place.
-use Rattle.std.proofs.Common.{ℕ, ◌+◌, ◌≤◌, ◌⊎◌, inl, inr, List, length, Option, None, subst, arith}
+use Rattle.std.proofs.Common.{ℕ, ◌+◌, ◌≤◌, ◌⊎◌, List, length, Option, None, subst, arith}
 use Rattle.ar_base.specs.Lists.{Stands}
 use Rattle.ar_base.specs.declared.places.Place.{Place}
 use Rattle.ar_base.proofs.Standing.{stands_one, stands_within}

@@ -1,5 +1,5 @@
 -- The earliest of the places that have a property.
-use Rattle.std.specs.Prelude.{ℕ, ◌<◌, Option, Some, None}
+use Rattle.std.specs.Prelude.{◌≡◌, ℕ, ◌<◌, Option, Some, None}
 use Rattle.ar_base.specs.Breach.{IsEarlier}
 use Rattle.ar_base.specs.declared.places.Place.{Place}
 
@@ -24,3 +24,10 @@ pub record Until (P : ℕ → Place → Type 0) (n : ℕ) (p : Place) : Type 0 w
 -- a place was found, and this one is not before it
 pub data IsNotBefore (at : Place) : Option Place → Type 0 where
   behind : {p : Place} → (IsEarlier at p → ⊥) → IsNotBefore at (Some p)
+
+-- where P was tested beside the place found: that stays, and no place that has P is before it, or an earlier one has P, and
+-- none before that
+pub data FindsBeside (P : Place → Type 0) (found : Option Place) : Option Place → Type 0 where
+  kept : ((p : Place) → P p → IsNotBefore p found) → FindsBeside P found found
+  new : {p : Place} → ((q : Place) → found ≡ Some q → IsEarlier p q) → P p → ((q : Place) → IsEarlier q p → P q → ⊥)
+      → FindsBeside P found (Some p)

@@ -21,3 +21,4 @@ pub mod Rows
 pub mod Ordering
 pub mod Retested
 pub mod Testing
+pub mod Ranks

@@ -4,7 +4,6 @@ use Rattle.std.specs.Prelude.{◌≡◌, ℕ, List, map, Option}
 use Rattle.ar_base.specs.Lists.{Stands, Along}
 use Rattle.ar_base.specs.Numbers.{NameId, BodyId}
 use Rattle.ar_syntax.specs.declared.items.DomainBody.{DomainBody}
-use Rattle.ar_syntax.specs.declared.items.DomainBody.TheVariants as body
 use Rattle.ar_syntax.specs.declared.items.Model.{Model}
 use Rattle.domains.specs.declared.Domain.{Domain}
 use Rattle.class_table.specs.Declaring.{TextBody, NamedType, DomainType, ClassType, Declared, IsDeclared}
@@ -13,7 +12,7 @@ use Rattle.class_table.specs.declared.tables.TypeBody.{TypeBody}
 use Rattle.class_table.specs.declared.tables.TypeBody.TheVariants as types
 use Rattle.class_table.specs.declared.tables.Body.{Body}
 use Rattle.class_table.specs.declared.tables.Classes.{Classes}
-use Rattle.class_table.specs.Tables.{IsDomainOf, symbols, IsMain}
+use Rattle.class_table.specs.Tables.{IsDomainOf, IsMain}
 
 -- the type that is declared so
 pub data IsTypeOf (symbols : List ℕ) : NamedType → TypeBody → Type 0 where

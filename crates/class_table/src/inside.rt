@@ -1,6 +1,6 @@
 //! Which bodies are inside which.
 
-ghost use Rattle.std.specs.Prelude.{◌≡◌, option_map, IfOk, OnOk};
+ghost use Rattle.std.specs.Prelude.{◌≡◌, length, option_map, IfOk, OnOk};
 ghost use Rattle.class_table.specs.Declaring.{Declared};
 ghost use Rattle.class_table.specs.Kinds.{KnowsTypes};
 ghost use Rattle.class_table.specs.Shown.{Shows, put_inside, inside_type};
@@ -59,8 +59,9 @@ pub(crate) fn all_inside(
     bodies: &[Body],
     types: &TypeKinds,
 ) -> Result<Vec<Vec<u32>>, Memory>
-    ensures { (d : Declared) → Shows d bodies.now types.now
+    ensures inner { (d : Declared) → Shows d bodies.now types.now
         → IfOk result (λ rows. AreInnerBodies d rows.items) }
+    ensures long { IfOk result (λ rows. length rows.items ≡ length bodies.now) }
 {
     let mut rows = Vec::new(alloc);
     for body in bodies {

@@ -15,6 +15,7 @@ mod members;
 mod misnaming;
 mod naming;
 mod order;
+mod ranks;
 mod repeats;
 mod sites;
 mod symbols;

@@ -54,8 +54,8 @@ fn next_awaited(row: &mut Vec<u32>, placed: &[bool]) -> Option<u32>
     None
 }
 
-// As many empty rows.
-fn empty_rows(alloc: Global, count: usize) -> Result<Vec<Vec<u32>>, Memory>
+/// As many empty rows.
+pub(crate) fn empty_rows(alloc: Global, count: usize) -> Result<Vec<Vec<u32>>, Memory>
     ensures long { IfOk result (λ rows. length rows.items ≡ count) }
     ensures none { IfOk result (λ rows. (a b : ℕ) → IsInRow rows.items a b → ⊥) }
 {

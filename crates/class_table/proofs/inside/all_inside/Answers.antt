@@ -18,6 +18,9 @@ loop-body-preserved c =
           (rw c.deref.ensures.value at (c.in_ok-row.ensures d shown.known)) c.in_ok-push.ensures.items;
     }
 
-pub returns : goal.returns
-returns c = λ d shown. rows_end d _ _ shown.as_text (omega (arith, c.loop-body.invariant.long))
+pub returns-clause-inner : goal.returns-clause-inner
+returns-clause-inner c = λ d shown. rows_end d _ _ shown.as_text (omega (arith, c.loop-body.invariant.long))
     (c.loop-body.invariant.each d shown)
+
+pub returns-clause-long : goal.returns-clause-long
+returns-clause-long c = omega (arith, c.loop-body.invariant.long)

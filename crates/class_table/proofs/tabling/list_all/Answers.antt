@@ -14,7 +14,7 @@ pub put_in_order-requires : goal.put_in_order-requires
 put_in_order-requires c =
     let h = c.requires.declared in
     let s = shows_kept h.0 h.2 _ _ h.3 _ (c.in_ok-kinds.ensures h.2 h.3.as_types) in
-    let i = c.in_ok-rows.ensures h.2 s in
+    let i = c.in_ok-rows.ensures.inner h.2 s in
     let e = along_length _ _ s.as_text in
     record {
       within = λ x y r. let l = inside_there h.3.declared x y (i.to x y r) in omega (arith, l, i.long);
@@ -26,7 +26,7 @@ list_members-requires c =
     let h = c.requires.declared in
     let s = shows_kept h.0 h.2 _ _ h.3 _ (c.in_ok-kinds.ensures h.2 h.3.as_types) in
     let k = passes2 h.0 h.1 h.2 _ _ h.4 (c.first_misnamed.ensures h.2 s) c.in_ok-keep.ensures in
-    let i = c.in_ok-rows.ensures h.2 s in
+    let i = c.in_ok-rows.ensures.inner h.2 s in
     let f = rw c.deref.ensures.value at c.in_ok-first_inside_itself.ensures in
     let k3 = passes3 h.0 h.1 h.2 _ _ k (f h.2 _ s i c.in_ok-order.ensures) c.in_ok-keep-2.ensures in (
       h.2,
@@ -47,7 +47,7 @@ pub returns-in_err-keep-2 : goal.returns-in_err-keep-2
 returns-in_err-keep-2 c = λ model main d h below.
     let s = shows_kept model d _ _ h _ (c.in_ok-kinds.ensures d h.as_types) in
     let k = passes2 model main d _ _ below (c.first_misnamed.ensures d s) c.in_ok-keep.ensures in
-    let i = c.in_ok-rows.ensures d s in
+    let i = c.in_ok-rows.ensures.inner d s in
     let f = rw c.deref.ensures.value at c.in_ok-first_inside_itself.ensures in
     let t = refuses3 model main d _ _ k (f d _ s i c.in_ok-order.ensures) c.in_err-keep-2.ensures in
     let r = err_from_is_err_and c.from_residual-in_err-keep-2.result c.from_residual-in_err-keep-2.ensures.1 in
@@ -59,7 +59,7 @@ returns c = λ model main d h below.
     let n = c.in_ok-kinds.ensures d h.as_types in
     let s = shows_kept model d _ _ h _ n in
     let k = passes2 model main d _ _ below (c.first_misnamed.ensures d s) c.in_ok-keep.ensures in
-    let i = c.in_ok-rows.ensures d s in
+    let i = c.in_ok-rows.ensures.inner d s in
     let f = rw c.deref.ensures.value at c.in_ok-first_inside_itself.ensures in
     let k3 = passes3 model main d _ _ k (f d _ s i c.in_ok-order.ensures) c.in_ok-keep-2.ensures in
     let can = can_list model main d _ _ h.declared k3 i c.in_ok-order.ensures in

@@ -146,19 +146,23 @@ module _ (test : Operand) (ts : List Term) (with without : List Literal) (s : Ar
 -- the next term
 module _ (test : Operand) (ts : List Term) (i : ℕ) (d : Term) (h : i < length ts) (with without : List Literal)
     (s : AreSides test (take i ts) with without) (other : Operand) (l : Literal) (e : literal_of l ≡ opposite other)
-    (new : List Literal) where
-  pub next_with : IsBesideIn (get_or ts i d) test other → new ≡ with ++ l ∷ [] → AreSides test (take (i + 1) ts) new without
-  next_with b m =
-      subst (λ (z : List Literal). AreSides test (take (i + 1) ts) z without) (sym m)
+    (new pushed kept : List Literal) (is : new ≡ pushed) where
+  pub next_with : IsBesideIn (get_or ts i d) test other → pushed ≡ with ++ l ∷ [] → kept ≡ without
+      → AreSides test (take (i + 1) ts) new kept
+  next_with b m k =
+      subst (λ (z : List Literal). AreSides test (take (i + 1) ts) z kept) (sym (is ∙ m))
+      (subst (λ (z : List Literal). AreSides test (take (i + 1) ts) (with ++ l ∷ []) z) (sym k)
       (subst (λ (z : List Term). AreSides test z (with ++ l ∷ []) without) (sym (take_more ts i d h))
-      (sides_with test (take i ts) with without s (get_or ts i d) other l e b))
+      (sides_with test (take i ts) with without s (get_or ts i d) other l e b)))
 
-  pub next_without : IsBesideIn (get_or ts i d) (opposite test) other → new ≡ without ++ l ∷ []
-      → AreSides test (take (i + 1) ts) with new
-  next_without b m =
-      subst (λ (z : List Literal). AreSides test (take (i + 1) ts) with z) (sym m)
+  pub next_without : (o : Operand) → o ≡ opposite test → IsBesideIn (get_or ts i d) o other → pushed ≡ without ++ l ∷ []
+      → kept ≡ with → AreSides test (take (i + 1) ts) kept new
+  next_without o t b m k =
+      subst (λ (z : List Literal). AreSides test (take (i + 1) ts) kept z) (sym (is ∙ m))
+      (subst (λ (z : List Literal). AreSides test (take (i + 1) ts) z (without ++ l ∷ [])) (sym k)
       (subst (λ (z : List Term). AreSides test z with (without ++ l ∷ [])) (sym (take_more ts i d h))
-      (sides_without test (take i ts) with without s (get_or ts i d) other l e b))
+      (sides_without test (take i ts) with without s (get_or ts i d) other l e
+      (subst (λ (z : Operand). IsBesideIn (get_or ts i d) z other) t b))))
 
 -- ---- literals that are among others
 pub among_so : (these those few more : List Literal) → AreEnough (literal_operands these) (literal_operands few)

@@ -8,7 +8,7 @@ use Rattle.ar_base.proofs.Standing.{one_first, one_rest, one_none}
 use Rattle.eq_core.specs.Gates.{Operand, Gate, GateIs, opposite}
 use Rattle.eq_core.specs.Ordered.{AreBelow}
 use Rattle.eq_core.specs.Values.{signed, operand_at, joint_at, values_at, value_at}
-use Rattle.eq_core.specs.ValuesInside.{IsBelow, GainsGates}
+use Rattle.eq_core.specs.ValuesInside.{IsBelow}
 use Rattle.eq_core.specs.Views.{operand_of}
 use Rattle.eq_core.specs.declared.joints.Operand as code
 use Rattle.eq_core.specs.declared.joints.Operand.TheVariants as c
@@ -191,10 +191,6 @@ either_made old mid new x a b both neither r hx ha hb m n e =
           ∙ ap (λ z. z || value_at new b set) all;
     }
 
-pub either_refused : (old new : List Gate) (x a b : Operand) (e : Unshared) → GainsGates old new
-    → AddsEither x a b old new (Err e)
-either_refused old new x a b e grown = record { grows = grown; below = tt; same = tt }
-
 -- ---- the vote is decided
 -- where b implies a, x and a or b is a where x is true and b where it is not; and the same of opposites
 vote_law : (s x p q : Bool) → (signed s q ≡ true → signed s p ≡ true)
@@ -228,10 +224,6 @@ vote_decided old new v with without larger smaller either r el es m e = record {
       ∙ vote_law s x (value_at new with set) (value_at new without set) h;
 }
 
-pub decided_refused : (old new : List Gate) (v : Vote) (with without : Operand) (e : Unshared) → GainsGates old new
-    → DecidesVote v with without old new (Err e)
-decided_refused old new v with without e grown = record { grows = grown; below = tt; same = tt }
-
 -- the operand of a vote, where its sides have theirs
 pub vote_made : (old one two new : List Gate) (os : List Operand) (v : Vote) (p q r : code.Operand) → IsVoteOf old os v
     → AreBelow (length old) os → AddsGates (literal_operands v.sides.with.items) old one (Ok p)
@@ -263,5 +255,14 @@ vote_made old one two new os v p q r is below w u d =
       };
     }
 
-pub refused_on : (os : List Operand) (old new : List Gate) (e : Unshared) → GainsGates old new → AddsGates os old new (Err e)
-refused_on os old new e grown = record { grows = grown; made = tt }
+-- the same of what the code names otherwise
+pub voted_made : (old start one two new : List Gate) (os : List Operand) (v : Vote) (with without : List Literal)
+    (p q r : code.Operand) → IsVoteOf old os v → AreBelow (length old) os → start ≡ old → with ≡ v.sides.with.items
+    → without ≡ v.sides.without.items → AddsGates (literal_operands with) start one (Ok p)
+    → AddsGates (literal_operands without) one two (Ok q) → DecidesVote v (operand_of p) (operand_of q) two new (Ok r)
+    → AddsGates os old new (Ok r)
+voted_made old start one two new os v with without p q r is below s w u a b d =
+    vote_made old one two new os v p q r is below
+    (subst (λ (z : List Gate). AddsGates (literal_operands v.sides.with.items) z one (Ok p)) s
+    (subst (λ (z : List Literal). AddsGates (literal_operands z) start one (Ok p)) w a))
+    (subst (λ (z : List Literal). AddsGates (literal_operands z) one two (Ok q)) u b) d

@@ -39,10 +39,10 @@ none_more set values (u ∷ ts) t =
     ap (λ z. b && z) (none_more set values ts t)
     ∙ and_three b (none_at set values ts) (not (joint_at true set values (term_operands t)))
 
-pub terms_before : (n : ℕ) (ts : List Term) (t : Term) → AreTermsBelow n (ts ++ t ∷ []) → AreTermsBelow n ts
+terms_before : (n : ℕ) (ts : List Term) (t : Term) → AreTermsBelow n (ts ++ t ∷ []) → AreTermsBelow n ts
 terms_before n ts t b = record { each = λ u m. b.each u (one_left ts (t ∷ []) u m) }
 
-pub term_last : (n : ℕ) (ts : List Term) (t : Term) → AreTermsBelow n (ts ++ t ∷ []) → AreBelow n (term_operands t)
+term_last : (n : ℕ) (ts : List Term) (t : Term) → AreTermsBelow n (ts ++ t ∷ []) → AreBelow n (term_operands t)
 term_last n ts t b = b.each t (one_last ts t)
 
 pub terms_more_below : (n : ℕ) (ts : List Term) (t : Term) → AreTermsBelow n ts → AreBelow n (term_operands t)
@@ -110,7 +110,7 @@ more_below n ls l other e b h =
 
 module _ (test : Operand) (ts : List Term) (with without : List Literal) (s : AreSides test ts with without) (t : Term)
     (other : Operand) (l : Literal) (e : literal_of l ≡ opposite other) where
-  pub sides_with : IsBesideIn t test other → AreSides test (ts ++ t ∷ []) (with ++ l ∷ []) without
+  sides_with : IsBesideIn t test other → AreSides test (ts ++ t ∷ []) (with ++ l ∷ []) without
   sides_with b = record {
     same = λ set values.
         let x = operand_at set values test in
@@ -126,7 +126,7 @@ module _ (test : Operand) (ts : List Term) (with without : List Literal) (s : Ar
     without_below = λ n h. s.without_below n (terms_before n ts t h);
   }
 
-  pub sides_without : IsBesideIn t (opposite test) other → AreSides test (ts ++ t ∷ []) with (without ++ l ∷ [])
+  sides_without : IsBesideIn t (opposite test) other → AreSides test (ts ++ t ∷ []) with (without ++ l ∷ [])
   sides_without b = record {
     same = λ set values.
         let x = operand_at set values test in

@@ -225,7 +225,7 @@ vote_decided old new v with without larger smaller either r el es m e = record {
 }
 
 -- the operand of a vote, where its sides have theirs
-pub vote_made : (old one two new : List Gate) (os : List Operand) (v : Vote) (p q r : code.Operand) → IsVoteOf old os v
+vote_made : (old one two new : List Gate) (os : List Operand) (v : Vote) (p q r : code.Operand) → IsVoteOf old os v
     → AreBelow (length old) os → AddsGates (literal_operands v.sides.with.items) old one (Ok p)
     → AddsGates (literal_operands v.sides.without.items) one two (Ok q)
     → DecidesVote v (operand_of p) (operand_of q) two new (Ok r) → AddsGates os old new (Ok r)

@@ -91,7 +91,7 @@ fn next_image(
     let Some(literals) = needed_literals(alloc, images, gate)? else {
         return Ok(for_joint(gate.joint, Operand::Never));
     };
-    let all = sharing.voted(alloc, gate.joint, &literals, MOST_LEVELS)?;
+    let all = sharing.by_votes(alloc, gate.joint, &literals, MOST_LEVELS)?;
     Ok(for_joint(gate.joint, all))
 }
 

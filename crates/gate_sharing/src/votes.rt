@@ -20,7 +20,7 @@ impl Sharing {
     /// The operand that is true where all of the literals are. Where they are a vote, that is the opposite of `x and A, or B`,
     /// or that itself: x is the literal of the vote, and B implies A. A and B are made in the same way, through at most so
     /// many levels, while steps are left. In all other cases it is made as `simplest` makes it.
-    pub(crate) fn voted(
+    pub(crate) fn by_votes(
         &mut self,
         alloc: Global,
         joint: Joint,
@@ -42,15 +42,15 @@ impl Sharing {
         if levels == 0 || !self.spend(literals.len()) {
             return self.simplest(alloc, joint, literals);
         }
-        let with = self.voted(alloc, joint, &vote.sides.with, levels - 1)?;
-        let without = self.voted(alloc, joint, &vote.sides.without, levels - 1)?;
-        let made = self.decided(alloc, &vote, with, without)?;
+        let with = self.by_votes(alloc, joint, &vote.sides.with, levels - 1)?;
+        let without = self.by_votes(alloc, joint, &vote.sides.without, levels - 1)?;
+        let made = self.decide(alloc, &vote, with, without)?;
         self.keep(key, made)?;
         Ok(made)
     }
 
     // The operand of a vote, of the operands for its sides.
-    fn decided(
+    fn decide(
         &mut self,
         alloc: Global,
         vote: &Vote,
@@ -60,7 +60,8 @@ impl Sharing {
         requires test { IsBelow (length self.old) (literal_of vote.now.test) }
         requires with { IsBelow (length self.old) (operand_of with) }
         requires without { IsBelow (length self.old) (operand_of without) }
-        ensures { DecidesVote vote.now (operand_of with) (operand_of without) self.old self.new result }
+        ensures { DecidesVote vote.now (operand_of with) (operand_of without) self.old self.new
+            result }
     {
         let larger = with_sign(vote.rises, with);
         let smaller = with_sign(vote.rises, without);
@@ -79,7 +80,8 @@ impl Sharing {
         requires test { IsBelow (length self.old) (literal_of test) }
         requires larger { IsBelow (length self.old) (operand_of larger) }
         requires smaller { IsBelow (length self.old) (operand_of smaller) }
-        ensures { AddsEither (literal_of test) (operand_of larger) (operand_of smaller) self.old self.new result }
+        ensures { AddsEither (literal_of test) (operand_of larger) (operand_of smaller) self.old
+            self.new result }
     {
         let both = self.both(alloc, Joint::And, test.operand(), larger)?;
         let neither = self.both(alloc, Joint::Or, negated(both), negated(smaller))?;

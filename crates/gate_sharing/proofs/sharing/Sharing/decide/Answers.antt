@@ -1,6 +1,6 @@
 use Rattle.eq_core.specs.Views.{operand_of}
 use Rattle.gate_sharing.proofs.Voting.{vote_decided}
-use Rattle.gate_sharing.proofs.sharing.Sharing.decided.Goals as goal
+use Rattle.gate_sharing.proofs.sharing.Sharing.decide.Goals as goal
 
 pub returns : goal.returns
 returns c =

@@ -132,7 +132,7 @@ pub(crate) fn stepped(
 {
     let count = numbers.len().saturating_mul(values.len());
     budget.spend(count)?;
-    if count <= FEW {
+    if count <= FEW || keeps_few(most) {
         return few_stepped(alloc, step, first, numbers, values, most);
     }
     if count > MOST_RESULTS {
@@ -140,6 +140,14 @@ pub(crate) fn stepped(
     }
     let all = results(alloc, step, first, numbers, values)?;
     set_of(alloc, &all, most)
+}
+
+// Whether a set may have few values only, so that many results are few values, or soon too many.
+fn keeps_few(most: Option<u32>) -> bool {
+    match most {
+        Some(most) => most as usize <= FEW,
+        None => false,
+    }
 }
 
 // The same, the results put in one by one.

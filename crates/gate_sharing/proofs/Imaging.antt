@@ -1,5 +1,5 @@
 -- Images of gates have the gates' values.
-use Rattle.std.proofs.Common.{◌≡◌, inl, inr, ⊎_elim, ℕ, ◌<◌, Bool, true, false, ◌&&◌, ◌||◌, List, [], ◌∷◌, ◌++◌, map, get_or, length, refl, sym, ap, ap₂, ◌∙◌, subst, arith}
+use Rattle.std.proofs.Common.{◌≡◌, inl, inr, ⊎_elim, ℕ, ◌<◌, Bool, true, false, ◌&&◌, ◌||◌, List, [], ◌∷◌, ◌++◌, map, get_or, length, Ok, refl, sym, ap, ap₂, ◌∙◌, subst, arith}
 use Rattle.std.proofs.lemmas.Bool.{or_cases, or_left, or_right}
 use Rattle.ar_base.specs.Lists.{Stands, IsOneOf}
 use Rattle.ar_base.proofs.Standing.{stands_one, stands_within, stands_get, stands_split, stands_none, stands_alone, one_first, one_rest}
@@ -7,10 +7,14 @@ use Rattle.eq_core.specs.Gates.{Operand, Always, Never, EventIs, GateIs, Gate, T
 use Rattle.eq_core.specs.Ordered.{AreBelow, AreOrdered, IsOrderedTable}
 use Rattle.eq_core.specs.Values.{signed, operand_at, joint_at, values_at, value_at}
 use Rattle.eq_core.specs.ValuesInside.{IsBelow, GainsGates}
+use Rattle.eq_core.specs.Views.{operand_of}
+use Rattle.eq_core.specs.declared.joints.Operand as code
 use Rattle.eq_core.proofs.Telling.{gate_value, place_below, turned, opposite_below, value_kept, below_kept}
 use Rattle.eq_core.specs.Cones.{own, named}
 use Rattle.eq_core.specs.Marks.{AreConeMarks}
-use Rattle.gate_sharing.specs.Images.{with_sign, image, needed_for, RestsOnGate, IsGateImage, AreImages}
+use Rattle.gate_sharing.specs.Images.{with_sign, image, needed_for, RestsOnGate, IsGateImage, AreImages, AddsImage}
+use Rattle.gate_sharing.specs.Literals.{AreEnough}
+use Rattle.gate_sharing.specs.Sharing.{AddsGates}
 use Rattle.gate_sharing.specs.Simplified.{HaveSameValues}
 use Rattle.gate_sharing.proofs.Alls.{one_unmapped}
 use Rattle.gate_sharing.proofs.Making.{morgan_back}
@@ -128,6 +132,17 @@ module _ (table : Table) (ordered : AreOrdered table.gates) (gate : Gate) (n : �
             (λ p m. image_value table more images still set p ((operands_below images e).each p m) (names_needed i p m))
             ∙ sym (gate_value set table.gates n gate stands (place_below (ordered.each n gate stands)));
       }
+
+-- what is made of literals that are enough
+pub image_made : (needed both : Bool) (os ps : List Operand) (old new : List Gate) (all r : code.Operand) → AreEnough os ps
+    → AddsGates ps old new (Ok all) → operand_of r ≡ with_sign both (operand_of all) → AddsImage needed both os old new (Ok r)
+image_made needed both os ps old new all r e a is = record {
+  grows = a.grows;
+  below = subst (λ (o : Operand). IsBelow (length new) o) (sym is) (sign_below (length new) both (operand_of all) a.made.below);
+  made = λ n set.
+      ap (λ (o : Operand). value_at new o set) is ∙ sign_value set new both (operand_of all)
+      ∙ ap (λ b. signed both b) (a.made.same set ∙ e.same set (values_at set new));
+}
 
 -- marks of both cones
 pub needed_marked : (table : Table) (conflict top : List Bool) (n : ℕ) → AreConeMarks table.gates table.conflict conflict

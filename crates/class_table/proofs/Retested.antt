@@ -1,20 +1,20 @@
 -- Names of members, of which those that a body inherits from one class are not tested again.
 use Rattle.std.proofs.Common.{◌≡◌, ℕ, zero, suc, ◌+◌, ◌-◌, ◌<◌, ◌≤◌, ◌⊎◌, inl, inr, List, [], ◌∷◌, ◌++◌, map, length, take, drop, Option, Some, None, option_map, is_some, true, false, refl, sym, ◌∙◌, ap, subst, arith, append_assoc}
-use Rattle.std.proofs.lemmas.List.{append-nil, take-append-drop, length-take-le, length-append, length-drop, take-map, take_all}
+use Rattle.std.proofs.lemmas.List.{take-append-drop, length-take-le, length-append, length-drop, take-map, take_all}
 use Rattle.std.proofs.lemmas.Option.{same_Some}
 use Rattle.std.proofs.Math.Seq.{take-append_seam}
 use Rattle.ar_base.specs.Breach.{IsEarlier}
-use Rattle.ar_base.specs.Lists.{Stands}
+use Rattle.ar_base.specs.Lists.{Stands, Along}
 use Rattle.ar_base.specs.Numbers.{NameId, BodyId}
 use Rattle.ar_base.specs.declared.places.Place.{Place}
-use Rattle.ar_base.proofs.Standing.{stands_split, stands_left, stands_right, stands_within, along_back}
+use Rattle.ar_base.proofs.Standing.{stands_none, stands_split, stands_left, stands_right, stands_within, along_back}
 use Rattle.ar_base.proofs.Comparing.{earlier_then, earlier_not}
 use Rattle.class_table.specs.Declaring.{Declared}
-use Rattle.class_table.specs.Members.{Site, Members, members, Inherits, nothing, from, passes, extended, own_of, own_at, sites_from, names_of, owned_at, named_at}
-use Rattle.class_table.specs.TablesInside.{site_of}
+use Rattle.class_table.specs.Members.{Site, class_named, Members, members, Inherits, nothing, from, passes, extended, own_of, own_at, sites_from, names_of, owned_at, named_at}
+use Rattle.class_table.specs.TablesInside.{site_of, IsBodyOf}
 use Rattle.class_table.specs.Earliest.{IsEarliest, nowhere, there, IsEarlierOf, no_first, no_second, first, second}
 use Rattle.class_table.specs.Repeating.{IsRepeated}
-use Rattle.class_table.specs.Retested.{names_of_site, member_names_at, IsNameTaken, IsMetAgain, among, taken, extending, one_if, IsApart, IsMetBehind, AreNamesTested}
+use Rattle.class_table.specs.Retested.{names_of_site, member_names_at, IsNameTaken, IsMetAgain, among, taken, IsApart, IsMetBehind, AreNamesTested}
 use Rattle.class_table.specs.Rules.{BreaksNames}
 use Rattle.class_table.specs.Shown.{AreMembersListed, member_place}
 use Rattle.class_table.specs.declared.tables.Body.{Body}
@@ -254,24 +254,38 @@ module _ (d : Declared) (bodies : List Body) (listed : AreMembersListed d bodies
 -- Members that one class brings
 
 module _ (d : Declared) where
-  of_no_class : (os : List Owned) (xs : List Site) → Inherits d os xs → extending os ≡ 0 → xs ≡ []
-  of_no_class os xs nothing e = refl
-  of_no_class os xs (from {o = o} {os = ps} x b f g m r) e =
-      absurd (let v = ap one_if f in omega (arith, v, e))
-  of_no_class os xs (passes {o = o} {os = ps} f r) e =
-      of_no_class ps xs r (let v = ap one_if f in omega (arith, v, e))
+  -- what the first member that extends a class brings comes first
+  pub record BringsFirst (x : ℕ) (sites : List Site) : Type 0 where
+    pub class : ℕ
+    pub named : class_named d x ≡ Some class
+    pub first : List Site
+    pub rest : List Site
+    pub joined : sites ≡ first ++ rest
+    pub are_members : Members d class first
 
-  of_one_class : (os : List Owned) (xs : List Site) → Inherits d os xs → extending os ≡ 1 → (c : ℕ) × Members d c xs
-  of_one_class os xs nothing e = absurd (omega (arith, e))
-  of_one_class os xs (from {o = o} {os = ps} {xs = us} {ys = vs} x b f g m r) e =
-      let i = of_no_class ps vs r (let v = ap one_if f in omega (arith, v, e)) in
-      (b, subst (Members d b) (sym (ap (λ (zs : List Site). us ++ zs) i ∙ append-nil us)) m)
-  of_one_class os xs (passes {o = o} {os = ps} f r) e =
-      of_one_class ps xs r (let v = ap one_if f in omega (arith, v, e))
-
-  extending_some : (os : List Owned) → extending os ≡ 1 → 0 < length os
-  extending_some [] e = absurd (omega (arith, e))
-  extending_some (o ∷ os) e = omega arith
+  brings_first : (os : List Owned) (xs : List Site) → Inherits d os xs → (i : ℕ) (o : Owned) (x : ℕ)
+      → ((k : ℕ) (p : Owned) → k < i → Stands os k p → extended p ≡ None) → Stands os i o → extended o ≡ Some x
+      → BringsFirst x xs
+  brings_first os xs nothing i o x before s e = absurd (stands_none i o s)
+  brings_first os xs (from {o = q} {os = ps} {xs = us} {ys = vs} y b f g m r) zero o x before s e =
+      let same : q ≡ o = same_Some _ _ s in
+      let number : y ≡ x = same_Some _ _ (sym f ∙ (ap extended same ∙ e)) in
+      record {
+        class = b;
+        named = ap (class_named d) (sym number) ∙ g;
+        first = us;
+        rest = vs;
+        joined = refl;
+        are_members = m;
+      }
+  brings_first os xs (from {o = q} y b f g m r) (suc i) o x before s e =
+      let n = before 0 q (omega arith) refl in
+      let h : None ≡ Some y = sym n ∙ f in absurd cc
+  brings_first os xs (passes {o = q} f r) zero o x before s e =
+      let same : q ≡ o = same_Some _ _ s in
+      let h : None ≡ Some x = sym f ∙ (ap extended same ∙ e) in absurd cc
+  brings_first os xs (passes {o = q} {os = ps} f r) (suc i) o x before s e =
+      brings_first ps xs r i o x (λ k p l t. before (suc k) p (omega (arith, l)) t) s e
 
   pub length_sites : (b k : ℕ) (os : List Owned) → length (sites_from b k os) ≡ length os
   length_sites b k [] = refl
@@ -293,46 +307,46 @@ module _ (d : Declared) where
         brings = subst (λ (os : List Owned). Inherits d os us) f i;
       }
 
-  pub apart_one : (b : ℕ) (all : List (BodyId × ℕ)) (own : List Owned) (n : ℕ) → Members d b (map site_of all)
-      → own_at d b ≡ own → extending own ≡ 1 → n ≡ length all - length own → IsApart d all n
-  apart_one b all own n m e one i =
+  pub members_there : (bodies : List Body) → Along IsBodyOf bodies d.bodies → (c : ℕ) (sites : List Site) → Members d c sites
+      → c < length bodies
+  members_there bodies shown c sites (members body s i) =
+      let w = along_back bodies d.bodies shown c body s in stands_within bodies c w.0 w.1
+
+  pub apart_first : (b : ℕ) (all : List (BodyId × ℕ)) (own : List Owned) (n i : ℕ) (o : Owned) (x : ℕ)
+      → Members d b (map site_of all) → own_at d b ≡ own
+      → ((k : ℕ) (p : Owned) → k < i → Stands own k p → extended p ≡ None) → Stands own i o → extended o ≡ Some x
+      → ((c : ℕ) (sites : List Site) → class_named d x ≡ Some c → Members d c sites → n ≡ length sites)
+      → IsApart d all n
+  apart_first b all own n i o x m e before s f count =
       let t = in_parts b _ own m e in
-      let u = of_one_class own t.inherited t.brings one in
-      let k = sym (length_map site_of all) ∙ (ap length t.joined ∙ (length-append t.inherited (sites_from b 0 own)
-      ∙ ap (λ (q : ℕ). length t.inherited + q) (length_sites b 0 own))) in
-      let j : n ≡ length t.inherited = omega (arith, k, i) in
-      let g = extending_some own one in
-      let f : map site_of (take n all) ≡ t.inherited =
-      sym (take-map site_of n all) ∙ (ap (take n) t.joined
-      ∙ (ap (λ (q : ℕ). take q (t.inherited ++ sites_from b 0 own)) j ∙ take-append_seam t.inherited (sites_from b 0 own))) in
+      let u = brings_first own t.inherited t.brings i o x before s f in
+      let behind = u.rest ++ sites_from b 0 own in
+      let joined : map site_of all ≡ u.first ++ behind =
+      t.joined ∙ (ap (λ (zs : List Site). zs ++ sites_from b 0 own) u.joined ∙ append_assoc u.first u.rest (sites_from b 0 own)) in
+      let j : n ≡ length u.first = count u.class u.first u.named u.are_members in
+      let k = sym (length_map site_of all) ∙ (ap length joined ∙ length-append u.first behind) in
+      let l = length-append u.rest (sites_from b 0 own) in
+      let q = length_sites b 0 own in
+      let w = stands_within own i o s in
+      let g : map site_of (take n all) ≡ u.first =
+      sym (take-map site_of n all) ∙ (ap (take n) joined
+      ∙ (ap (λ (z : ℕ). take z (u.first ++ behind)) j ∙ take-append_seam u.first behind)) in
       inr (record {
-        class = u.0;
-        fewer = omega (arith, k, j, g);
-        are_members = subst (Members d u.0) (sym f) u.1;
+        class = u.class;
+        fewer = omega (arith, k, j, l, q, w);
+        are_members = subst (Members d u.class) (sym g) u.are_members;
       })
 
--- one member more
-pub extending_next : (os : List Owned) (o : Owned) → extending (os ++ o ∷ []) ≡ extending os + one_if (extended o)
-extending_next [] o = omega arith
-extending_next (x ∷ os) o = let e = extending_next os o in omega (arith, e)
+-- what a member extends, as it was found
+pub some_extended : (o : Option NameId) (y : Option ℕ) → option_map (λ (n : NameId). n.n) o ≡ y → is_some o ≡ true
+    → (x : ℕ) × (y ≡ Some x)
+some_extended (Some n) y e f = (n.n, sym e)
+some_extended None y e f = cc
 
-pub extending_few : (os : List Owned) → extending os ≤ length os
-extending_few [] = omega arith
-extending_few (o ∷ os) = let e = extending_few os in let f = few (extended o) in omega (arith, e, f)
-  where
-    few : (x : Option ℕ) → one_if x ≤ 1
-    few None = omega arith
-    few (Some y) = omega arith
-
-pub counts_one : (o : Option NameId) (x : Option ℕ) → option_map (λ (n : NameId). n.n) o ≡ x → is_some o ≡ true
-    → one_if x ≡ 1
-counts_one (Some n) x e f = ap one_if (sym e)
-counts_one None x e f = cc
-
-pub counts_none : (o : Option NameId) (x : Option ℕ) → option_map (λ (n : NameId). n.n) o ≡ x → is_some o ≡ false
-    → one_if x ≡ 0
-counts_none (Some n) x e f = cc
-counts_none None x e f = ap one_if (sym e)
+pub none_extended : (o : Option NameId) (y : Option ℕ) → option_map (λ (n : NameId). n.n) o ≡ y → is_some o ≡ false
+    → y ≡ None
+none_extended (Some n) y e f = cc
+none_extended None y e f = sym e
 
 -- the rest of a list as a slice has it
 pub rest_whole : {A : Type 0} (n : ℕ) (xs : List A) → take (length xs - n) (drop n xs) ≡ drop n xs

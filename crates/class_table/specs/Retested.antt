@@ -1,12 +1,12 @@
 -- Names of members, of which those that a body inherits from one class are not tested again.
-use Rattle.std.specs.Prelude.{◌≡◌, ◌<◌, ◌+◌, ◌&&◌, ◌==◌, ◌⊎◌, ◌↔◌, ⊤, ℕ, nat_eq, Bool, true, List, [], ◌∷◌, length, map, take, drop, Option, Some, None}
+use Rattle.std.specs.Prelude.{◌≡◌, ◌<◌, ◌&&◌, ◌==◌, ◌⊎◌, ◌↔◌, ⊤, ℕ, nat_eq, Bool, true, List, length, map, take, drop, Option, Some, None}
 use Rattle.std.specs.HashMap as hash
 use Rattle.std.specs.HashSet as bag
 use Rattle.ar_base.specs.Lists.{Stands, IsOneOf}
 use Rattle.ar_base.specs.Numbers.{BodyId}
 use Rattle.ar_base.specs.declared.places.Place.{Place}
 use Rattle.class_table.specs.Declaring.{Declared}
-use Rattle.class_table.specs.Members.{Site, Members, extended, names_of, named_at, owned_at}
+use Rattle.class_table.specs.Members.{Site, Members, names_of, named_at, owned_at}
 use Rattle.class_table.specs.TablesInside.{site_of}
 use Rattle.class_table.specs.Earliest.{IsEarliest}
 use Rattle.class_table.specs.Repeating.{IsNamed, IsRepeated}
@@ -15,7 +15,6 @@ use Rattle.class_table.specs.declared.given.Given.{Given}
 use Rattle.class_table.specs.declared.given.Giver.{Giver}
 use Rattle.class_table.specs.declared.given.Giver.TheVariants.{Only, Several}
 use Rattle.class_table.specs.declared.tables.Body.{Body}
-use Rattle.class_table.specs.declared.tables.Owned.{Owned}
 
 -- the names with their places that the member at a site gives
 abbrev pub names_of_site : Declared → Site → List (ℕ × Place)
@@ -37,16 +36,6 @@ pub record IsNameTaken (earlier later : List (ℕ × Place)) (p : Place) : Type 
 pub data IsMetAgain (earlier later : List (ℕ × Place)) (p : Place) : Type 0 where
   among : IsRepeated later p → IsMetAgain earlier later p
   taken : IsNameTaken earlier later p → IsMetAgain earlier later p
-
--- 1 where there is such a number, and 0 where there is none
-abbrev pub one_if : Option ℕ → ℕ
-one_if None = 0
-one_if (Some x) = 1
-
--- how many of these members extend a class
-abbrev pub extending : List Owned → ℕ
-extending [] = 0
-extending (o ∷ os) = one_if (extended o) + extending os
 
 -- the first n of these members are all members of a class, and there are more
 pub record AreOfClass (d : Declared) (all : List (BodyId × ℕ)) (n : ℕ) : Type 0 where

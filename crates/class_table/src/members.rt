@@ -1,8 +1,8 @@
 //! All members of each body, the inherited ones first.
 
-ghost use Rattle.std.specs.Prelude.{◌≡◌, ◌++◌, ◌<◌, ◌≤◌, ℕ, List, length, map, OnOk, IfOk, option_map};
+ghost use Rattle.std.specs.Prelude.{◌≡◌, ◌++◌, ◌<◌, ◌≤◌, ℕ, List, length, map, OnOk, IfOk, Some, option_map};
 ghost use Rattle.class_table.specs.Declaring.{Declared};
-ghost use Rattle.class_table.specs.Members.{Members, Inherits, own_at, sites_from, extended as declared_extended};
+ghost use Rattle.class_table.specs.Members.{Site, class_named, Members, Inherits, own_at, sites_from, extended as declared_extended};
 ghost use Rattle.class_table.specs.TablesInside.{site_of};
 ghost use Rattle.class_table.specs.Shown.{Shows, AreMembersListed};
 ghost use Rattle.class_table.specs.Listing.{ListsDone, IsDone, AreDone, CanList, IsOfClass};
@@ -71,9 +71,13 @@ fn count_members(bodies: &[Body], types: &TypeKinds, own: &[Owned]) -> usize
     count
 }
 
-// How many members a member brings of the class that it extends, if it extends one.
-// Takes no memory.
-fn count_inherited(bodies: &[Body], types: &TypeKinds, owned: &Owned) -> usize {
+/// How many members a member brings of the class that it extends, if it extends one and the members
+/// of that class are listed. Takes no memory.
+pub(crate) fn count_inherited(bodies: &[Body], types: &TypeKinds, owned: &Owned) -> usize
+    ensures { (d : Declared) (x c : ℕ) (sites : List Site) → Shows d bodies.now types.now
+        → AreMembersListed d bodies.now → declared_extended owned.now ≡ Some x → class_named d x ≡ Some c
+        → Members d c sites → result ≡ length sites }
+{
     let Some(name) = extended(owned) else {
         return 0;
     };

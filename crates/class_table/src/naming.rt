@@ -1,11 +1,12 @@
 //! The first name of a member that breaks rule L4.
 
-ghost use Rattle.std.specs.Prelude.{◌≡◌, ◌+◌, ◌≤◌, ℕ, length, map, IfOk};
+ghost use Rattle.std.specs.Prelude.{◌≡◌, ◌≤◌, ℕ, List, length, map, IfOk};
+ghost use Rattle.ar_base.specs.Numbers.{BodyId as BodyNumber};
 ghost use Rattle.class_table.specs.Declaring.{Declared};
 ghost use Rattle.class_table.specs.Members.{Members, own_at};
 ghost use Rattle.class_table.specs.TablesInside.{site_of};
 ghost use Rattle.class_table.specs.Earliest.{IsEarliest};
-ghost use Rattle.class_table.specs.Retested.{IsApart, AreNamesTested, KnowsGiven, extending};
+ghost use Rattle.class_table.specs.Retested.{IsApart, AreNamesTested, KnowsGiven};
 ghost use Rattle.class_table.specs.Rules.{BreaksNames};
 ghost use Rattle.class_table.specs.Kinds.{KnowsTypes};
 ghost use Rattle.class_table.specs.Shown.{Shows, AreMembersListed};
@@ -13,7 +14,7 @@ ghost use Rattle.class_table.specs.Shown.{Shows, AreMembersListed};
 use crate::earliest::earliest;
 use crate::given::Given;
 use crate::giving::names_given;
-use crate::members::extended;
+use crate::members::{count_inherited, extended};
 use crate::repeats::Repeats;
 use crate::sites::owned_at;
 use crate::tables::{Body, Owned};
@@ -39,17 +40,19 @@ pub(crate) fn first_named_twice(
     Ok(found)
 }
 
-// How many of a list's members extend a class.
-fn count_extending(own: &[Owned]) -> usize
-    ensures { result ≡ extending own.now }
+// How many members the first class that a body extends has: they are the body's first ones. None
+// where it extends no class. Takes no memory.
+fn count_first(bodies: &[Body], types: &TypeKinds, own: &[Owned]) -> usize
+    ensures { (d : Declared) (b : ℕ) (all : List (BodyNumber × ℕ)) → Shows d bodies.now types.now
+        → AreMembersListed d bodies.now → Members d b (map site_of all) → own_at d b ≡ own.now
+        → IsApart d all result }
 {
-    let mut count = 0;
     for owned in own {
         if extended(owned).is_some() {
-            count += 1;
+            return count_inherited(bodies, types, owned);
         }
     }
-    count
+    0
 }
 
 // About how many names the members at these sites give. Takes no memory.
@@ -65,18 +68,18 @@ fn size_of(bodies: &[Body], sites: &[(BodyId, u32)]) -> usize {
     size
 }
 
-// How many of a body's first members need no test among themselves: where the body extends one
-// class, those of that class, unless it takes longer to look for the other names among them than to
-// test all.
-fn tested_before(bodies: &[Body], body: &Body) -> usize
-    ensures apart { (d : Declared) (b : ℕ) → Members d b (map site_of body.now.all.items)
+// How many of a body's first members need no test among themselves: those of the first class that it
+// extends, unless it takes longer to look for the other names among them than to test all.
+fn tested_before(bodies: &[Body], types: &TypeKinds, body: &Body) -> usize
+    ensures apart { (d : Declared) (b : ℕ) → Shows d bodies.now types.now
+        → AreMembersListed d bodies.now → Members d b (map site_of body.now.all.items)
         → own_at d b ≡ body.now.own.items → IsApart d body.now.all.items result }
     ensures within { result ≤ length body.now.all.items }
 {
-    if count_extending(&body.own) != 1 {
+    let inherited = count_first(bodies, types, &body.own);
+    if inherited > body.all.len() {
         return 0;
     }
-    let inherited = body.all.len().saturating_sub(body.own.len());
     let looked_up = size_of(bodies, &body.all[inherited..]).saturating_mul(inherited);
     if looked_up / 8 > size_of(bodies, &body.all[..inherited]) {
         return 0;
@@ -84,8 +87,8 @@ fn tested_before(bodies: &[Body], body: &Body) -> usize
     inherited
 }
 
-// The earliest of the later ones of two names of a body, of which not both are inherited from one
-// class.
+// The earliest of the later ones of two names of a body, of which not both are inherited from the
+// first class that the body extends.
 fn in_body(
     alloc: Global,
     bodies: &[Body],
@@ -93,11 +96,11 @@ fn in_body(
     given: &Given,
     body: &Body,
 ) -> Result<Option<Place>, Memory>
-    ensures { (d : Declared) (b : ℕ) → Shows d bodies.now types.now → KnowsGiven d given.now
-        → Members d b (map site_of body.now.all.items) → own_at d b ≡ body.now.own.items
+    ensures { (d : Declared) (b : ℕ) → Shows d bodies.now types.now
+        → AreMembersListed d bodies.now → KnowsGiven d given.now → Members d b (map site_of body.now.all.items) → own_at d b ≡ body.now.own.items
         → IfOk result (AreNamesTested d body.now) }
 {
-    let before = tested_before(bodies, body);
+    let before = tested_before(bodies, types, body);
     let list = names_given(alloc, bodies, types, &body.all[before..])?;
     let mut names = Repeats::new(alloc);
     names.add_all(&list)?;

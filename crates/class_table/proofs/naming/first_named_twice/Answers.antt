@@ -13,7 +13,7 @@ loop-body-preserved c = λ d known l.
     let s = item_stands c.args.bodies.now c.loop-body.body-index c.body-item.result (omega arith) c.body-item.is in
     let shown : Shows d c.args.bodies.now c.args.types.now = record { as_text = l.as_text; known = known } in
     tested_next d _ l _ _ _ _ _ s (c.loop-body.invariant d known l)
-    (c.in_ok-in_body.ensures d c.loop-body.body-index shown (c.in_ok-given.ensures d shown l) (l.members _ _ s)
+    (c.in_ok-in_body.ensures d c.loop-body.body-index shown l (c.in_ok-given.ensures d shown l) (l.members _ _ s)
     (own_shown d _ l.as_text _ _ s)) c.earliest-found.ensures
 
 pub returns : goal.returns

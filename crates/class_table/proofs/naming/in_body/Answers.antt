@@ -9,14 +9,14 @@ use Rattle.class_table.proofs.Retested.{met_earliest, rest_whole}
 use Rattle.class_table.proofs.naming.in_body.Goals as goal
 
 pub returns : goal.returns
-returns c = λ d b shown given m e.
+returns c = λ d b shown listed given m e.
     let list = c.in_ok-list.ensures d shown in
     let rest = rw (c.deref.ensures.value, rest_whole) at list in
     let met = c.in_ok-add_all.ensures [] c.new-names.ensures in
     let took = c.first_taken.ensures d given in
     record {
       n = c.tested_before-before.result;
-      apart = c.tested_before-before.ensures.apart d b m e;
+      apart = c.tested_before-before.ensures.apart d b shown listed m e;
       earliest = met_earliest _ _ _ _ _
           (subst (λ (ns : List (ℕ × Place)). IsEarliest (IsRepeated ns) c.add_all.new.self.found)
           (ap (map name_and_place) c.deref-2.ensures.value ∙ rest) met.found)

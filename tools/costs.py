@@ -414,6 +414,13 @@ def countup(n):
     return job("replay", "domain N [0, 255]\n" + block(" N ", each("x#", range(n)), " (reset = 0);\n assertion\n", rules), "")
 
 
+@kind(1000, 31300)
+def minima(n):
+    """minima of two variables of 64 values"""
+    flows = " N a, b (init = 0);\n N " + each("z#", range(n)) + " (reset = 0);\n  assertion\n"
+    return job("fragment", "domain N [0, 63]\n" + block(flows, each("    z# := min(a, b);\n", range(n), "")))
+
+
 @kind(40, 680)
 def cubic(n):
     """flows, each the next one or the conjunction of all"""

@@ -8,7 +8,6 @@ use Rattle.typed_expr.specs.Values.{is_related, sum_of}
 use Rattle.typed_expr.specs.Sets.{HasExactly, AtLimit, Gathers}
 use Rattle.typed_expr.specs.Sizes.{HasMoreThan}
 use Rattle.typed_expr.specs.Yields.{Level, Yields, Some_yields, All_yield, Picks, Picks_parts, Takes}
-use Rattle.typed_expr.specs.YieldsInside.{facts_of}
 use Rattle.typed_expr.specs.Yields as y
 use Rattle.typed_expr.specs.Possible.{IsSubexpression, itself, in_not, in_all, in_any, in_left, in_right, in_sum, in_product, in_least, in_greatest, in_count, in_test, in_value, in_other, IsWide, subexpression, step}
 use Rattle.typed_expr.specs.Evaluating.{Evaluates, IsTruth, SomeRelated, SomeWide, Tallied, Tallies, FoldYields, SomeStep, Folds, SumYields, PartWide, Sums, CaseWide, Took, PassesAll, Chosen, Chooses, BranchYields, Joins, ToldTruth, TellsAnswer}

@@ -17,3 +17,4 @@ pub mod OneValue
 pub mod KindsYielded
 pub mod Listing
 pub mod Mentioning
+mod Stopping

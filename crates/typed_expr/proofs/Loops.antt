@@ -16,7 +16,6 @@ use Rattle.typed_expr.specs.Yields.{Yields, Some_yields, All_yield, Picks, Picks
 use Rattle.typed_expr.specs.Yields as y
 use Rattle.typed_expr.specs.Possible.{IsWide}
 use Rattle.typed_expr.specs.Evaluating.{ToldTruth, IsNextOperand, SomeWide, Tallied, FoldYields, SomeStep, Folds, SumYields, PartWide, Sums, CaseWide, Took, PassesAll, Chosen}
-use Rattle.typed_expr.specs.Evaluating as ev
 use Rattle.typed_expr.specs.declared.expr.Expr.{Expr, out-Expr}
 use Rattle.typed_expr.specs.declared.fold.Step.{Step}
 use Rattle.typed_expr.specs.declared.fold.Step.TheVariants.{Part}

@@ -1,5 +1,5 @@
 -- The loops of the evaluation of sets: what holds after the first operands, parts and cases.
-use Rattle.std.proofs.Common.{◌≡◌, ℕ, ◌+◌, ◌<◌, ◌≤◌, ◌↔◌, ℤ, pos, Bool, true, false, not, IsTrue, List, [], ◌∷◌, length, take, drop, Contains, get_or, is_some, Option, Some, None, Result, Ok, Err, refl, sym, ap, ◌∙◌, subst, ◌⊎◌, inl, inr}
+use Rattle.std.proofs.Common.{◌≡◌, ℕ, ◌+◌, ◌<◌, ◌≤◌, ◌↔◌, ℤ, Bool, true, false, not, IsTrue, List, [], ◌∷◌, length, take, drop, Contains, get_or, is_some, Option, Some, None, Result, Ok, Err, refl, sym, ap, ◌∙◌, subst, ◌⊎◌, inl, inr}
 use Rattle.std.proofs.lemmas.List.{take-append-drop}
 use Rattle.ar_base.proofs.Items.{take_item}
 use Rattle.domains.specs.declared.Value.{Value}

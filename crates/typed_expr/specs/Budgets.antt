@@ -1,5 +1,5 @@
 -- What budgets count.
-use Rattle.std.specs.Prelude.{◌≡◌, ◌<◌, ◌+◌, ◌||◌, ℕ, Bool, true, false, if◌then◌else◌, nat_lt}
+use Rattle.std.specs.Prelude.{◌≡◌, ◌+◌, ◌||◌, ℕ, if◌then◌else◌, nat_lt}
 use Rattle.typed_expr.specs.declared.budget.Budget.{Budget}
 
 -- what so many values count as: themselves, or one where there is none

@@ -193,6 +193,9 @@ fn folded<V, E: Env<V>>(
         let more = with_operand(alloc, e, env, most, budget, step, first, so_far)?;
         so_far = more;
         first = false;
+        if so_far.is_empty() && most.is_none() {
+            return Ok(so_far);
+        }
     }
     Ok(so_far)
 }
@@ -221,6 +224,9 @@ fn summed<V, E: Env<V>>(
             so_far,
         )?;
         so_far = more;
+        if so_far.is_empty() && most.is_none() {
+            return Ok(so_far);
+        }
     }
     Ok(so_far)
 }

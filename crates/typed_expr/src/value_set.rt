@@ -67,6 +67,13 @@ impl ValueSet {
         }
     }
 
+    // Whether the set has no value.
+    pub(crate) fn is_empty(&self) -> bool
+        ensures { IsTrue result → self.now ≡ [] }
+    {
+        self.values().is_empty()
+    }
+
     // Whether the set has the value.
     pub(crate) fn has(&self, v: Value) -> bool
         ensures { IsTrue result ↔ Contains self.now v }

@@ -14,6 +14,7 @@ use Rattle.typed_expr.proofs.Arms as arm
 use Rattle.typed_expr.proofs.Forms as form
 use Rattle.typed_expr.proofs.SoFar as loop
 use Rattle.typed_expr.proofs.Loops.{wide-here}
+use Rattle.typed_expr.proofs.Stopping.{fold-stops-early, sum-stops-early}
 use Rattle.typed_expr.proofs.Shrinking as smaller
 use Rattle.typed_expr.proofs.possible.+yielded.Goals as goal
 
@@ -214,6 +215,16 @@ folded-loop-e-preserved g t c =
     loop.fold-steps facts c.args.most c.args.step c.loop-e.first c.args.es.now c.loop-e.e-index c.e-item.result
     c.loop-e.so_far c.in_ok-more.more c.loop-e-test.true c.e-item.is c.loop-e.invariant c.in_ok-more.ensures
 
+pub folded-returns-then-is_none : goal.folded-returns-then-is_none
+folded-returns-then-is_none g t c =
+    let facts = facts_of (g.E.Env.facts_at c.args.env.now) in
+    let next =
+    loop.fold-steps facts c.args.most c.args.step c.loop-e.first c.args.es.now c.loop-e.e-index c.e-item.result
+    c.loop-e.so_far c.in_ok-more.more c.loop-e-test.true c.e-item.is c.loop-e.invariant c.in_ok-more.ensures in
+    fold-stops-early facts c.args.most c.args.step false c.args.es.now (c.loop-e.e-index + 1) c.in_ok-more.more
+    (c.is_empty.ensures c.if-is_empty.true)
+    (loop.none-there _ c.is_none.result c.is_none.ensures c.if-is_none.true) next
+
 pub folded-returns-in_err-more : goal.folded-returns-in_err-more
 folded-returns-in_err-more g t c =
     let facts = facts_of (g.E.Env.facts_at c.args.env.now) in
@@ -248,6 +259,17 @@ summed-loop-plus-preserved g t c =
     loop.sum-steps facts c.args.most c.args.parts.now c.loop-plus.plus-index c.loop-plus-item.result
     c.loop-plus.so_far c.in_ok-more.more c.loop-plus-test.true c.loop-plus-item.is c.loop-plus.invariant
     c.in_ok-more.ensures
+
+pub summed-returns-then-is_none : goal.summed-returns-then-is_none
+summed-returns-then-is_none g t c =
+    let facts = facts_of (g.E.Env.facts_at c.args.env.now) in
+    let next =
+    loop.sum-steps facts c.args.most c.args.parts.now c.loop-plus.plus-index c.loop-plus-item.result
+    c.loop-plus.so_far c.in_ok-more.more c.loop-plus-test.true c.loop-plus-item.is c.loop-plus.invariant
+    c.in_ok-more.ensures in
+    sum-stops-early facts c.args.most c.args.parts.now (c.loop-plus.plus-index + 1) c.in_ok-more.more
+    (c.is_empty.ensures c.if-is_empty.true)
+    (loop.none-there _ c.is_none.result c.is_none.ensures c.if-is_none.true) next
 
 pub summed-returns-in_err-more : goal.summed-returns-in_err-more
 summed-returns-in_err-more g t c =

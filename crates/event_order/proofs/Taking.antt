@@ -1,10 +1,10 @@
 -- One tree more over new numbers, and one edge of it more.
-use Rattle.std.proofs.Common.{◌≡◌, ⊎_elim, ℕ, ◌+◌, ◌<◌, ◌≤◌, List, [], ◌∷◌, ◌++◌, Some, None, length, take, drop, refl, sym, ap, ◌∙◌, subst, arith, length-append, append_assoc}
+use Rattle.std.proofs.Common.{◌≡◌, ⊎_elim, inl, inr, ℕ, ◌+◌, ◌<◌, ◌≤◌, List, [], ◌∷◌, ◌++◌, Some, None, length, take, drop, refl, sym, ap, ◌∙◌, subst, arith, length-append, append_assoc}
 use Rattle.std.specs.HashMap.{HashMap}
 use Rattle.std.proofs.lemmas.List.{map-append, length-map, length-take-le, take-append-drop}
 use Rattle.ar_base.specs.Lists.{Stands}
 use Rattle.ar_base.specs.NumbersInside.{EventId}
-use Rattle.ar_base.proofs.Standing.{stands_one, stands_within, stands_left, stands_map_back, along_back}
+use Rattle.ar_base.proofs.Standing.{stands_none, stands_one, stands_within, stands_left, stands_map_back, along_back}
 use Rattle.diagram_steps.specs.declared.trees.NumberedEdge.{NumberedEdge}
 use Rattle.diagram_steps.specs.declared.trees.NumberedTree.{NumberedTree}
 use Rattle.diagram_steps.specs.Trees.{edges_of, TreeHasEvent}
@@ -12,7 +12,7 @@ use Rattle.mode_diagrams.specs.Trees.{AreApart}
 use Rattle.mode_diagrams.specs.Costs.{HasDifferentEvents}
 use Rattle.mode_diagrams.specs.Lacking.{tree_place_of, HavePlacedEvents}
 use Rattle.event_order.specs.Renumbered.{AreDistinct, IsNamed, IsRenumbered, AreRenumbered}
-use Rattle.event_order.specs.Taking.{AreNumbersOf, events_of, IsNew, IsFrom, names_in, AreTaken, Takes, Meets}
+use Rattle.event_order.specs.Taking.{AreNumbersOf, events_of, IsNew, IsFrom, names_in, AreTaken, IsOfTreeAt, AreOfOneTree, Takes, Meets}
 use Rattle.event_order.specs.declared.numbering.Numbering.{Numbering}
 use Rattle.event_order.proofs.Naming.{named_left, named_split}
 use Rattle.event_order.proofs.Taken.{old_event, new_named, renumbered_none, renumbered_more}
@@ -75,6 +75,15 @@ taken_none trees n t e a = record {
 }
 
 -- ---- one tree more
+of_edges : (tree : NumberedTree) (x : ℕ) → IsNamed (events_of (edges_of tree)) x → TreeHasEvent tree x
+of_edges tree x n =
+    let a = stands_map_back (λ (e : NumberedEdge). e.event) (edges_of tree) n.number n.name n.stands in
+    record {
+      edge = a.0;
+      one = record { place = n.number; stands = a.1 };
+      is = ap (λ (y : EventId). y.n) a.2 ∙ n.is;
+    }
+
 pub takes_more : (trees : List NumberedTree) (place : ℕ) (old new : Numbering) (tree made : NumberedTree)
     → AreTaken trees old → Stands trees place tree → IsNew (names_in old) tree
     → names_in new ≡ names_in old ++ events_of (edges_of tree) → AreNumbersOf (names_in new) new.numbers.numbers
@@ -93,6 +102,10 @@ takes_more trees place old new tree made t stands fresh names numbers is from pu
   met = λ u e st h.
       new_named (names_in new) u made
       (subst (λ y. IsRenumbered (names_in new) y made) (stands_one trees place tree u stands st) is) e h;
+  fresh = λ x n. ⊎_elim
+      (λ l. inl l)
+      (λ r. inr (record { tree = tree; stands = stands; has = of_edges tree x r }))
+      (named_split (names_in old) (events_of (edges_of tree)) x (subst (λ ns. IsNamed ns x) names n));
 }
 
 -- where one event of a tree has no number, none has
@@ -124,6 +137,16 @@ meets_one trees e place old new tree apart stands has t = record {
   met = λ k u st h.
       let at : k ≡ place = apart.one k place u tree e st stands h has in
       t.met u e (subst (λ j. Stands trees j u) at st) h;
+  fresh = λ x n. ⊎_elim
+      (λ l. inl l)
+      (λ r. inr (record {
+        place = place;
+        tree = tree;
+        stands = stands;
+        first = has;
+        second = subst (λ y. TreeHasEvent y x) (stands_one trees place r.tree tree r.stands stands) r.has;
+      }))
+      (t.fresh x n);
 }
 
 -- where no place is put for an event, no tree has it
@@ -135,4 +158,23 @@ meets_none trees e places n placed lacks t = record {
   met = λ k u st h.
       let w = placed.whole k u e (stands_within trees k u st) st h in
       let wrong : None ≡ Some w.0 = sym lacks ∙ w.1 in cc;
+  fresh = λ x n. inl n;
 }
+
+-- the event has a number already, so nothing is taken
+pub meets_named : (trees : List NumberedTree) (e : ℕ) (n : Numbering) → AreTaken trees n → IsNamed (names_in n) e
+    → Meets trees e n n
+meets_named trees e n t named = record {
+  taken = t;
+  kept = λ x h. h;
+  met = λ k u st h. named;
+  fresh = λ x h. inl h;
+}
+
+-- where there are no trees, no event has a number
+pub none_named : (n : Numbering) → AreTaken [] n → (e : ℕ) → IsNamed (names_in n) e → ⊥
+none_named n t e m =
+    let r = t.trees_are in
+    let u = r.used m.number m.name m.stands in
+    let w = along_back r.places n.trees.items r.trees u.0 u.1 u.2 in
+    stands_none w.0 w.2.old w.2.stands

@@ -16,12 +16,13 @@ use Rattle.eq_core.proofs.Telling.{place_below}
 use Rattle.eq_core.specs.Cones.{InGateCone, own, named}
 use Rattle.diagram_steps.specs.declared.trees.NumberedTree.{NumberedTree}
 use Rattle.diagram_steps.specs.Trees.{TreeHasEvent}
-use Rattle.event_order.specs.Ordered.{RestsOn, HasAllNames}
+use Rattle.event_order.specs.Ordered.{RestsOn, HasAllNames, IsOfUse, HasNoOtherNames}
 use Rattle.event_order.specs.Ordered.RestsOn.{own as names_it, inside}
 use Rattle.event_order.specs.Renumbered.{IsNamed}
 use Rattle.event_order.specs.Taking.{AreTaken, Meets, names_in}
-use Rattle.event_order.specs.Visiting.{Pushes, unseen, waiting, work, IsDone, Looks}
+use Rattle.event_order.specs.Visiting.{Pushes, unseen, waiting, work, IsDone, IsOfGate, IsMetBy, Looks}
 use Rattle.event_order.specs.declared.visiting.Walk.{Walk}
+use Rattle.event_order.proofs.Taking.{none_named}
 
 -- ---- marks
 set_kept : (ms : List Bool) (i k : ℕ) → Stands ms k true → Stands (set ms i true) k true
@@ -123,6 +124,7 @@ module _ (trees : List NumberedTree) (gates : List g.Gate) where
     opened = λ n s. inl s;
     kept = λ p i. i;
     sound = λ p i. inl i;
+    fresh = λ x n. inl n;
     less = refl;
   }
 
@@ -137,6 +139,10 @@ module _ (trees : List NumberedTree) (gates : List g.Gate) where
     opened = λ n s. inl (subst (λ z. Stands z n true) same s);
     kept = λ p i. subst (λ z. IsOneOf (map operand_of z) p) (sym still) i;
     sound = λ p i. inl (subst (λ z. IsOneOf (map operand_of z) p) still i);
+    fresh = λ x n. ⊎_elim
+        (λ l. inl l)
+        (λ r. inr (record { event = e; sign = sign; is = refl; one = r }))
+        (m.fresh x n);
     less =
         let a = ap (unseen gates) same in
         let b = ap (λ z. length (map operand_of z)) still in
@@ -172,10 +178,12 @@ module _ (trees : List NumberedTree) (gates : List g.Gate) where
           n,
           gate,
           st,
+          (record { sign = sign; is = refl }),
           subst (λ z. IsOneOf z o) (sym are) (subst (λ y. IsOneOf (map operand_of written) y) x.2
               (one_is operand_of written x.0 (moved operands written x.0 (IsPermutation-sym written operands perm) r))),
         ))
         (p.sound x.0 x.1);
+    fresh = λ x h. inl (subst (λ z. IsNamed z x) same h);
     less =
         let a = ap (unseen gates) marked in
         let b = unseen_set gates w.seen.items n gate st not_seen in
@@ -207,7 +215,12 @@ below_more l n Never h b = tt
 below_more l n (EventIs e sign) h b = tt
 below_more l n (GateIs k sign) h b = omega (arith, h, b)
 
--- each operand of a gate that was seen is on the stack, or was visited
+-- the operand is the root, or one of a gate that it rests on
+abbrev pub IsReached : List g.Gate → g.Operand → g.Operand → Type 0
+IsReached gates root o =
+    (o ≡ root) ⊎ ((n : ℕ) × (gate : g.Gate) × InGateCone gates root n × Stands gates n gate × IsOneOf gate.operands o)
+
+-- each operand of a gate that was seen is on the stack, or was visited, and nothing else was
 pub record IsWalk (trees : List NumberedTree) (gates : List g.Gate) (root : g.Operand) (w : Walk) : Type 0 where
   pub taken : AreTaken trees w.numbering
   pub long : length w.seen.items ≡ length gates
@@ -215,12 +228,14 @@ pub record IsWalk (trees : List NumberedTree) (gates : List g.Gate) (root : g.Op
   pub own : IsOneOf (waiting w) root ⊎ IsDone trees w root
   pub operands : (n : ℕ) (gate : g.Gate) (o : g.Operand) → Stands w.seen.items n true → Stands gates n gate
       → IsOneOf gate.operands o → IsOneOf (waiting w) o ⊎ IsDone trees w o
+  pub sound : (o : g.Operand) → IsOneOf (waiting w) o → IsReached gates root o
+  pub used : (e : ℕ) → IsNamed (names_in w.numbering) e → IsOfUse trees gates root e
 
 module _ (trees : List NumberedTree) (gates : List g.Gate) (root : g.Operand) where
   pub walk_begins : (w : Walk) (r : Operand) → w.stack.items ≡ r ∷ [] → operand_of r ≡ root
       → w.seen.items ≡ replicate (length gates) false → length w.seen.items ≡ length gates → AreTaken trees w.numbering
-      → IsBelow (length gates) root → IsWalk trees gates root w
-  walk_begins w r e is none long t b = record {
+      → AreTaken [] w.numbering → IsBelow (length gates) root → IsWalk trees gates root w
+  walk_begins w r e is none long t fresh b = record {
     taken = t;
     long = long;
     below = λ o i. subst (IsBelow (length gates))
@@ -228,6 +243,8 @@ module _ (trees : List NumberedTree) (gates : List g.Gate) (root : g.Operand) wh
     own = inl (subst (λ z. IsOneOf (map operand_of z) root) (sym e)
         (subst (λ o. IsOneOf (operand_of r ∷ []) o) is (one_first (operand_of r) [])));
     operands = λ n gate o s st i. absurd (none_marked (length gates) n (subst (λ z. Stands z n true) none s));
+    sound = λ o i. inl (sym (sym is ∙ only_item (operand_of r) o (subst (λ z. IsOneOf (map operand_of z) o) e i)));
+    used = λ x n. absurd (none_named w.numbering fresh x n);
   }
 
   pub top_below : (w : Walk) (rest : List Operand) (x : Operand) → w.stack.items ≡ rest ++ x ∷ [] → IsWalk trees gates root w
@@ -267,6 +284,22 @@ module _ (trees : List NumberedTree) (gates : List g.Gate) (root : g.Operand) wh
         (one_is operand_of w.stack.items y.0
         (subst (λ z. IsOneOf z y.0) (sym popped) (one_left mid.stack.items (x ∷ []) y.0 y.1)))
 
+    reached : IsReached gates root (operand_of x)
+    reached = i.sound (operand_of x)
+        (one_is operand_of w.stack.items x (subst (λ z. IsOneOf z x) (sym popped) (one_last mid.stack.items x)))
+
+    in_cone : (n : ℕ) (sign : Bool) → operand_of x ≡ GateIs n sign → InGateCone gates root n
+    in_cone n sign e = ⊎_elim
+        (λ q. own (sym q ∙ e))
+        (λ r. named r.2 r.3 (subst (λ z. IsOneOf r.1.operands z) e r.4))
+        reached
+
+    rests_on : (k : ℕ) (sign : Bool) → operand_of x ≡ EventIs k sign → RestsOn gates root k
+    rests_on k sign e = ⊎_elim
+        (λ q. names_it (sym q ∙ e))
+        (λ r. inside r.2 r.3 (subst (λ z. IsOneOf r.1.operands z) e r.4))
+        reached
+
     pub walk_next : IsWalk trees gates root new
     walk_next = record {
       taken = l.taken;
@@ -275,13 +308,29 @@ module _ (trees : List NumberedTree) (gates : List g.Gate) (root : g.Operand) wh
           (λ a. i.below o (in_stack o a))
           (λ r.
           let w = stands_within gates r.0 r.1 r.2 in
-          below_more r.0 (length gates) o (omega (arith, w)) ((place_below (ordered.each r.0 r.1 r.2)).each o r.3))
+          below_more r.0 (length gates) o (omega (arith, w)) ((place_below (ordered.each r.0 r.1 r.2)).each o r.4))
           (l.sound o one);
       own = met root i.own;
       operands = λ n gate o s st one. ⊎_elim
           (λ a. met o (i.operands n gate o (subst (λ z. Stands z n true) seen a) st one))
           (λ f. inl (f gate st o one))
           (l.opened n s);
+      sound = λ o one. ⊎_elim
+          (λ a. i.sound o (in_stack o a))
+          (λ r. inr (r.0, r.1, in_cone r.0 r.3.sign r.3.is, r.2, r.4))
+          (l.sound o one);
+      used = λ e h. ⊎_elim
+          (λ a. i.used e (subst (λ z. IsNamed z e) names a))
+          (λ r. record {
+            place = r.one.place;
+            tree = r.one.tree;
+            stands = r.one.stands;
+            has = r.one.second;
+            used = r.event;
+            has_used = r.one.first;
+            rests = rests_on r.event r.sign r.is;
+          })
+          (l.fresh e h);
     }
 
     pub walk_less : work gates new < work gates w
@@ -300,6 +349,9 @@ module _ (trees : List NumberedTree) (gates : List g.Gate) (root : g.Operand) wh
         )
 
   -- ---- the end
+  pub walk_uses : (w : Walk) → IsWalk trees gates root w → HasNoOtherNames (names_in w.numbering) trees gates root
+  walk_uses w i = record { each = i.used }
+
   pub walk_ends : (w : Walk) → w.stack.items ≡ [] → IsWalk trees gates root w → HasAllNames (names_in w.numbering) trees gates root
   walk_ends w empty i = record { each = λ e k tree rests st h. named_by e k tree st h rests }
     where

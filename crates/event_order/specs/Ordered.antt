@@ -28,6 +28,21 @@ pub record HasAllNames (names : List EventId) (trees : List NumberedTree) (gates
   pub each : (e k : ℕ) (tree : NumberedTree) → RestsOn gates root e → Stands trees k tree → TreeHasEvent tree e
       → IsNamed names e
 
+-- the event is one of a tree with an event on which the operand rests
+pub record IsOfUse (trees : List NumberedTree) (gates : List Gate) (root : Operand) (e : ℕ) : Type 0 where
+  pub place : ℕ
+  pub tree : NumberedTree
+  pub stands : Stands trees place tree
+  pub has : TreeHasEvent tree e
+  pub used : ℕ
+  pub has_used : TreeHasEvent tree used
+  pub rests : RestsOn gates root used
+
+-- each event that has a new number is one of a tree with an event on which the operand rests
+pub record HasNoOtherNames (names : List EventId) (trees : List NumberedTree) (gates : List Gate) (root : Operand)
+    : Type 0 where
+  pub each : (e : ℕ) → IsNamed names e → IsOfUse trees gates root e
+
 -- the gates and operand of o in the words of the definitions
 abbrev pub gates_of : Ordered → List Gate
 gates_of o = map gate_of o.gates.items
@@ -35,11 +50,12 @@ gates_of o = map gate_of o.gates.items
 abbrev pub root_of : Ordered → Operand
 root_of o = operand_of o.root
 
--- o has some of the trees, all with events on which the operand rests among them, and the gates and the operand, over new
--- numbers of events
+-- o has the trees with events on which the operand rests, and no others, and the gates and the operand, over new numbers of
+-- events
 pub record IsOrderedOf (trees : List NumberedTree) (gates : List Gate) (root : Operand) (o : Ordered) : Type 0 where
   pub trees_are : AreRenumbered o.names.items trees o.trees.items
   pub names_are : HasAllNames o.names.items trees gates root
+  pub no_others : HasNoOtherNames o.names.items trees gates root
   pub gates_are : Along (IsRenamedGate o.names.items) gates (gates_of o)
   pub root_is : IsRenamed o.names.items root (root_of o)
 

@@ -1,5 +1,5 @@
 -- Trees that are taken one after the other, over new numbers of their events.
-use Rattle.std.specs.Prelude.{◌≡◌, ◌<◌, ◌^◌, ◌+◌, ℕ, List, map, Some}
+use Rattle.std.specs.Prelude.{◌≡◌, ◌<◌, ◌^◌, ◌+◌, ◌⊎◌, ℕ, List, map, Some}
 use Rattle.std.specs.HashMap.{HashMap}
 use Rattle.ar_base.specs.Lists.{Stands}
 use Rattle.ar_base.specs.NumbersInside.{EventId}
@@ -40,14 +40,30 @@ pub record AreTaken (trees : List NumberedTree) (n : Numbering) : Type 0 where
   pub trees_are : AreRenumbered (names_in n) trees n.trees.items
   pub numbers_are : AreNumbersOf (names_in n) n.numbers.numbers
 
--- the tree at this place was taken
+-- the event is one of the tree at this place
+pub record IsOfTreeAt (trees : List NumberedTree) (place x : ℕ) : Type 0 where
+  pub tree : NumberedTree
+  pub stands : Stands trees place tree
+  pub has : TreeHasEvent tree x
+
+-- the events are of one tree
+pub record AreOfOneTree (trees : List NumberedTree) (e x : ℕ) : Type 0 where
+  pub place : ℕ
+  pub tree : NumberedTree
+  pub stands : Stands trees place tree
+  pub first : TreeHasEvent tree e
+  pub second : TreeHasEvent tree x
+
+-- the tree at this place was taken, and no other one
 pub record Takes (trees : List NumberedTree) (place : ℕ) (old new : Numbering) : Type 0 where
   pub taken : AreTaken trees new
   pub kept : (x : ℕ) → IsNamed (names_in old) x → IsNamed (names_in new) x
   pub met : (tree : NumberedTree) (e : ℕ) → Stands trees place tree → TreeHasEvent tree e → IsNamed (names_in new) e
+  pub fresh : (x : ℕ) → IsNamed (names_in new) x → IsNamed (names_in old) x ⊎ IsOfTreeAt trees place x
 
--- trees are only taken, and each tree with this event is
+-- trees are only taken, and each tree with this event is, and no other one
 pub record Meets (trees : List NumberedTree) (e : ℕ) (old new : Numbering) : Type 0 where
   pub taken : AreTaken trees new
   pub kept : (x : ℕ) → IsNamed (names_in old) x → IsNamed (names_in new) x
   pub met : (k : ℕ) (tree : NumberedTree) → Stands trees k tree → TreeHasEvent tree e → IsNamed (names_in new) e
+  pub fresh : (x : ℕ) → IsNamed (names_in new) x → IsNamed (names_in old) x ⊎ AreOfOneTree trees e x

@@ -7,7 +7,7 @@ use Rattle.eq_core.specs.Views.{operand_of}
 use Rattle.diagram_steps.specs.declared.trees.NumberedTree.{NumberedTree}
 use Rattle.diagram_steps.specs.Trees.{TreeHasEvent}
 use Rattle.event_order.specs.Renumbered.{IsNamed}
-use Rattle.event_order.specs.Taking.{AreTaken, names_in}
+use Rattle.event_order.specs.Taking.{AreTaken, AreOfOneTree, names_in}
 use Rattle.event_order.specs.declared.visiting.Walk.{Walk}
 
 -- the operands were put on the stack
@@ -45,7 +45,20 @@ abbrev pub IsOpened : List g.Gate → Walk → Walk → ℕ → Type 0
 IsOpened gates old new n = Stands old.seen.items n true
     ⊎ ((gate : g.Gate) → Stands gates n gate → (o : g.Operand) → IsOneOf gate.operands o → IsOneOf (waiting new) o)
 
--- the operand was visited: what was done stays so, operands are only put on the stack, and they are those of gates
+-- the operand is the gate or its opposite
+pub record IsOfGate (operand : g.Operand) (n : ℕ) : Type 0 where
+  pub sign : Bool
+  pub is : operand ≡ g.GateIs n sign
+
+-- the operand is an event or its opposite, and x is an event of its tree
+pub record IsMetBy (trees : List NumberedTree) (operand : g.Operand) (x : ℕ) : Type 0 where
+  pub event : ℕ
+  pub sign : Bool
+  pub is : operand ≡ g.EventIs event sign
+  pub one : AreOfOneTree trees event x
+
+-- the operand was visited: what was done stays so, no tree but that of its event is taken, and operands are only put on the
+-- stack, those of its gate
 pub record Looks (trees : List NumberedTree) (gates : List g.Gate) (operand : g.Operand) (old new : Walk) : Type 0 where
   pub taken : AreTaken trees new.numbering
   pub long : length new.seen.items ≡ length old.seen.items
@@ -55,5 +68,6 @@ pub record Looks (trees : List NumberedTree) (gates : List g.Gate) (operand : g.
   pub opened : (n : ℕ) → Stands new.seen.items n true → IsOpened gates old new n
   pub kept : (o : g.Operand) → IsOneOf (waiting old) o → IsOneOf (waiting new) o
   pub sound : (o : g.Operand) → IsOneOf (waiting new) o → IsOneOf (waiting old) o
-      ⊎ ((n : ℕ) × (gate : g.Gate) × Stands gates n gate × IsOneOf gate.operands o)
+      ⊎ ((n : ℕ) × (gate : g.Gate) × Stands gates n gate × IsOfGate operand n × IsOneOf gate.operands o)
+  pub fresh : (x : ℕ) → IsNamed (names_in new.numbering) x → IsNamed (names_in old.numbering) x ⊎ IsMetBy trees operand x
   pub less : work gates new ≡ work gates old

@@ -32,7 +32,7 @@ pub struct Ordered {
     pub names: Vec<EventId>,
 }
 
-/// The trees with events on which the operand rests, and the gates, with the events numbered anew: tree by tree, in the order
+/// The trees with events on which the operand rests, no others, and the gates, with the events numbered anew: tree by tree, in the order
 /// in which the operand's gates use the trees first. The time is in proportion to the gates' operands and the trees' edges, but
 /// for the sorting of each gate's operands. The error is want of memory.
 pub fn order_events(

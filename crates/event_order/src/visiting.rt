@@ -8,7 +8,7 @@ ghost use Rattle.eq_core.specs.Views.{gate_of, operand_of};
 ghost use Rattle.mode_diagrams.specs.Trees.{AreApart};
 ghost use Rattle.mode_diagrams.specs.Costs.{HaveDifferentEvents};
 ghost use Rattle.mode_diagrams.specs.Lacking.{HavePlacedEvents};
-ghost use Rattle.event_order.specs.Ordered.{HasAllNames};
+ghost use Rattle.event_order.specs.Ordered.{HasAllNames, HasNoOtherNames};
 ghost use Rattle.event_order.specs.Taking.{AreTaken, names_in};
 ghost use Rattle.event_order.specs.Visiting.{Pushes, Looks};
 
@@ -28,7 +28,7 @@ pub enum Visit {
     ShallowFirst,
 }
 
-/// The trees with events on which the operand rests, in the order in which these events are met from the operand on, gate by
+/// The trees with events on which the operand rests, and no others, in the order in which these events are met from the operand on, gate by
 /// gate, over new numbers of their events. The error is want of memory.
 pub(crate) fn first_uses(
     alloc: Global,
@@ -44,6 +44,8 @@ pub(crate) fn first_uses(
     requires root_in { IsBelow (length gates.now) (operand_of root) }
     ensures taken { IfOk result (λ n. AreTaken trees.now n) }
     ensures names { IfOk result (λ n. HasAllNames (names_in n) trees.now
+        (map gate_of gates.now) (operand_of root)) }
+    ensures no_others { IfOk result (λ n. HasNoOtherNames (names_in n) trees.now
         (map gate_of gates.now) (operand_of root)) }
 {
     let places = places(alloc, trees)?;

@@ -11,6 +11,7 @@ pub returns-clause-order : goal.returns-clause-order
 returns-clause-order c = record {
   trees_are = c.in_ok-trees.ensures.taken.trees_are;
   names_are = c.in_ok-trees.ensures.names;
+  no_others = c.in_ok-trees.ensures.no_others;
   gates_are = c.in_ok-gates.ensures;
   root_is = c.renamed-root.ensures;
 }

@@ -3,7 +3,7 @@ use Rattle.std.proofs.lemmas.List.{length-map, length-replicate}
 use Rattle.eq_core.specs.ValuesInside.{IsBelow}
 use Rattle.eq_core.specs.Views.{gate_of, operand_of}
 use Rattle.event_order.specs.declared.visiting.Walk.{Walk}
-use Rattle.event_order.proofs.Walking.{walk_begins, top_below, walk_next, walk_ends}
+use Rattle.event_order.proofs.Walking.{walk_begins, top_below, walk_next, walk_ends, walk_uses}
 use Rattle.event_order.proofs.visiting.first_uses.Goals as goal
 
 pub loop-operand-init : goal.loop-operand-init
@@ -14,7 +14,7 @@ loop-operand-init c =
     let none = c.in_ok-vec.ensures.items_if_clones_equal (λ y e. e) ∙ ap (λ n. replicate n false) (sym long) in
     walk_begins c.args.trees.now (map gate_of gates) (operand_of c.args.root) w c.args.root
     (c.in_ok-push.ensures.items ∙ ap (λ z. z ++ c.args.root ∷ []) c.new.ensures.items) refl none
-    (ap length none ∙ length-replicate (length (map gate_of gates)) false) (c.new-2.ensures c.args.trees.now)
+    (ap length none ∙ length-replicate (length (map gate_of gates)) false) (c.new-2.ensures c.args.trees.now) (c.new-2.ensures [])
     (subst (λ n. IsBelow n (operand_of c.args.root)) (sym long) c.requires.root_in)
 
 pub look-requires-clause-below : goal.look-requires-clause-below
@@ -35,3 +35,8 @@ pub returns-clause-names : goal.returns-clause-names
 returns-clause-names c =
     walk_ends c.args.trees.now (map gate_of c.args.gates.now) (operand_of c.args.root) c.loop-operand.walk
     (search rules) c.loop-operand.invariant
+
+pub returns-clause-no_others : goal.returns-clause-no_others
+returns-clause-no_others c =
+    walk_uses c.args.trees.now (map gate_of c.args.gates.now) (operand_of c.args.root) c.loop-operand.walk
+    c.loop-operand.invariant

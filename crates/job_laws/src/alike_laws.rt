@@ -1,6 +1,6 @@
 //! What follows for sources that are alike, and that the sources of a text are, however it is read.
 
-ghost use Rattle.std.specs.Prelude.{ℕ, List, Option, Result};
+ghost use Rattle.std.specs.Prelude.{ℕ, List, Option, Result, Ok};
 ghost use Rattle.gts_flatten.specs.Elaborating.{Elaborated};
 ghost use Rattle.run_words.specs.declared.jobs.Asked.{Asked};
 ghost use Rattle.job_stages.specs.Elaborates.{Elaborates};
@@ -46,4 +46,13 @@ pub fn one_source_or_refusal()
     texts_are_seen_alike();
     texts_break_the_same_rules();
     one_source_of_a_text();
+}
+
+/// The source of each text that the stages up to it pass is one of which words ask one thing: no
+/// two of its names have one text, and none of its things is listed twice.
+pub fn sources_are_definite()
+    ensures { (main : Option (List ℕ)) (text : List ℕ) (x : Elaborated)
+        → Elaborates main text (Ok x) → IsDefinite x }
+{
+    one_reading();
 }

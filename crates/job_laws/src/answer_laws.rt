@@ -23,7 +23,7 @@ ghost use Rattle.gts_flatten.specs.Elaborating.{Elaborated};
 ghost use Rattle.run_words.specs.declared.jobs.Asked.{Asked};
 ghost use Rattle.run_words.specs.declared.verbs.Verb.TheVariants.{Modules};
 ghost use Rattle.run_words.specs.Jobs.{IsAsked};
-ghost use Rattle.job_stages.specs.Elaborates.{Elaborates, Parses, Ruled, Tables};
+ghost use Rattle.job_stages.specs.Elaborates.{Parses, Ruled, Tables};
 ghost use Rattle.job_stages.specs.Files.{files_of, Loaded, IsText};
 ghost use Rattle.altarica_run.specs.Follows.{Call, Gave, IsKnown, IsQuiet, Wrote};
 ghost use Rattle.job_stages.specs.Refusals.{line_of, status_of};
@@ -165,15 +165,6 @@ pub fn read_texts_are_no_syntax_errors()
 {
     one_job();
     one_loading();
-    one_reading();
-}
-
-/// The source of each text that the stages up to it pass is one of which words ask one thing: no
-/// two of its names have one text, and none of its things is listed twice.
-pub fn sources_are_definite()
-    ensures { (main : Option (List ℕ)) (text : List ℕ) (x : Elaborated)
-        → Elaborates main text (Ok x) → IsDefinite x }
-{
     one_reading();
 }
 

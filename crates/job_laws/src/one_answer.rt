@@ -19,8 +19,7 @@ ghost use Rattle.job_laws.specs.Ready.{SameReady};
 ghost use Rattle.job_laws.specs.Definite.{AgreeButNodes};
 ghost use Rattle.job_laws.specs.Listings.{IsListingOf};
 
-use crate::alike_laws::one_source_or_refusal;
-use crate::answer_laws::sources_are_definite;
+use crate::alike_laws::{one_source_or_refusal, sources_are_definite};
 use crate::ready_jobs::jobs_agree;
 use altarica_run::laws::{listings_are_whole, one_job, one_loading};
 use job_inputs::laws::one_list;

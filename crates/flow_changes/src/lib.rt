@@ -21,4 +21,3 @@ mod whole;
 
 pub use changes::{Changes, changes_at};
 pub use present::{Present, make_present, propagate_from, restore};
-pub use restoring::restore;

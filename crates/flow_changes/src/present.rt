@@ -10,10 +10,11 @@ ghost use Rattle.flow_propagate.specs.Plan.{IsPlan};
 ghost use Rattle.flow_changes.specs.Restoring.{restored, marks_turned};
 ghost use Rattle.flow_changes.specs.Present.{present_values, known_of, IsPresent, Presents, IsFaultOf, Propagates};
 
+use crate::Changes;
 use crate::cone::cone;
+use crate::restoring::restore as write_back;
 use crate::trying::attempt;
 use crate::whole::whole;
-use crate::{Changes, restore as write_back};
 use ar_base::{Memory, VarId};
 use domains::Value;
 use flow_propagate::{Determined, Plan, PropagateFault, determine};

@@ -16,9 +16,9 @@ ghost use Rattle.bind_names.specs.Settled.{AreSettled};
 ghost use Rattle.bind_names.specs.Ways.{IsBoundPart, AddsPart};
 ghost use Rattle.bind_names.specs.Gathering.{IsNamedWay};
 
-use crate::action as bind_action;
 use crate::all_values::Values;
 use crate::numbered_expressions::expression;
+use crate::numbered_instructions::action as bind_action;
 use ar_base::{EventId, Memory, NameId, UnitId};
 use ar_syntax::{Member, Part};
 use bind_scopes::Scopes;

@@ -64,7 +64,7 @@ def tokens(n):
     return job("check", "domain N [0, 255]\n" + block(" N s (init = 0); observer Integer o = s", "+s" * n, ";\n"))
 
 
-@kind(4000, 290000)
+@kind(4000, 322000)
 def comments(n):
     """comments of both forms"""
     return job("check", "/* a **/ //x\n" * n + block(STATE))
@@ -76,38 +76,38 @@ def unclosed(n):
     return job("check", block(STATE) + "/ * /*" * n)
 
 
-@kind(100, 30000)
+@kind(100, 37500)
 def brackets(n):
     """observers in 40 brackets"""
     return job("check", block(*("observer Boolean o%d = %strue%s;\n" % (i, "(" * 40, ")" * 40) for i in range(n))))
 
 
-@kind(20, 10000)
+@kind(20, 12320)
 def eqnest(n):
     """observers of 40 equations, one in the other"""
     return job("check", block(STATE, *("observer Boolean o%d = %ss%s;\n" % (i, "(" * 40, " == s)" * 40) for i in range(n))))
 
 
-@kind(2000, 150000)
+@kind(2000, 134500)
 def badlast(n):
     """members before a mistake of syntax"""
     return job("check", block(each(" Boolean s# (init = true);\n", range(n), ""), " Boolean "))
 
 
-@kind(4000, 220000)
+@kind(4000, 239000)
 def items(n):
     """empty classes"""
     return job("check", each("class A# end\n", range(n), "") + block(STATE))
 
 
-@kind(10, 2900)
+@kind(10, 3800)
 def domains(n):
     """domains of 200 symbols that they share"""
     symbols = each("a#", range(200))
     return job("check", each("domain D# {" + symbols + "}\n", range(n), "") + block(STATE))
 
 
-@kind(4000, 500000)
+@kind(4000, 478000)
 def bigdomain(n):
     """symbols of one domain"""
     return job("check", "domain D {" + each("a#", range(n)) + "}\n" + block(STATE))
@@ -121,7 +121,7 @@ def widevars(n):
 
 # Units
 
-@kind(300, 200000)
+@kind(300, 140000)
 def ringclasses(n):
     """classes in a ring, each with an instance of the next"""
     return job("check", "".join("class A%d A%d x; end\n" % (i, (i + 1) % n) for i in range(n)) + block(STATE))
@@ -163,14 +163,14 @@ def setunits(n):
     return job("check", base + block(" C ", each("c#", range(n)), " (", ", ".join(["p = true"] * n), ");\n"))
 
 
-@kind(4, 270)
+@kind(4, 16320)
 def deepalias(n):
     """instances 61 units deep, each with 60 aliases of the unit above"""
     base = "class C\n" + each(" embeds owner.c0 as q#;", range(60), "") + "\nend\n"
     return job("check", base + block(each("block b# ", range(60), ""), " C ", each("c#", range(n)), ";", " end" * 60, "\n"))
 
 
-@kind(4, 270)
+@kind(4, 16320)
 def deepparams(n):
     """instances 61 units deep, each with 60 parameters"""
     base = "class C\n" + each(" parameter Boolean q# = true;", range(60), "") + "\nend\n"
@@ -192,7 +192,7 @@ def exprpath(n):
     return job("check", base + block(own, " C ", each("c#", range(n)), ";\n"))
 
 
-@kind(200, 16382)
+@kind(200, 8000)
 def lostclones(n):
     """instances with N / 4 clones of nothing each"""
     return job("check", "class C\n" + each(" clones nothing as q#;\n", range(n // 4), "") + "end\n" + block(" C ", each("c#", range(n)), ";\n"))
@@ -204,7 +204,7 @@ def initbig(n):
     return job("check", block("  Boolean ", each("x#", range(n)), " (init = ", " and ".join(["true"] * n), ");\n"))
 
 
-@kind(200, 9900)
+@kind(200, 16350)
 def initshare(n):
     """instances of a class whose init has 100 operands"""
     return job("check", "class C Boolean s (init = " + " and ".join(["true"] * 100) + "); end\n" + block(" C ", each("c#", range(n)), ";\n"))
@@ -230,14 +230,14 @@ def events(n):
     return job("check", block(STATE, "  event ", each("e#", range(n)), ";\n  transition\n", each("    e#: not s -> skip;\n", range(n), "")))
 
 
-@kind(10, 1150)
+@kind(10, 960)
 def ways256(n):
     """events of 256 ways"""
     ways = "".join(("e%d: s -> skip;\n" % i) * 256 for i in range(n))
     return job("check", block(STATE, " event ", each("e#", range(n)), ";\n transition\n", ways))
 
 
-@kind(20, 16000)
+@kind(20, 9900)
 def syncparts(n):
     """events, each a synchronisation of 60 others"""
     parts = " & ".join("?a%d" % j for j in range(60))
@@ -246,7 +246,7 @@ def syncparts(n):
     return job("check", block(STATE, " event ", names, ";\n transition\n", ways))
 
 
-@kind(200, 400000)
+@kind(200, 15000)
 def flatname(n):
     """bytes of a unit's name that is written N times"""
     names = " and ".join(["s"] * n)
@@ -276,7 +276,7 @@ def allsteps(n):
     return job("explain", row(8191), "fire c0.f\nfire c0.g\n" * (n // 2), "--observer", "lost")
 
 
-@kind(100, 80000)
+@kind(100, 80400)
 def laststeps(n):
     """steps of the last of 8,191 units"""
     return job("replay", row(8191), "fire c8190.f\nfire c8190.g\n" * (n // 2))
@@ -333,7 +333,7 @@ def ready(guard):
     return block(STATE, " event ", each("e#", range(16384)), ";\n transition", each(" e#: " + guard + " -> skip;\n", range(16384), ""))
 
 
-@kind(500, 80000)
+@kind(500, 87250)
 def labels(n):
     """lines that fire the last of 16,384 events"""
     return job("replay", ready("s"), "fire e16383\n" * n)
@@ -345,7 +345,7 @@ def enabled(n):
     return job("replay", ready("not s"), "enabled\n" * n)
 
 
-@kind(100, 69905)
+@kind(100, 65400)
 def alternate(n):
     """pairs of `fire` and `enabled` over 16,384 events of which one can fire"""
     return job("replay", ready("not s").replace(" e0: not s ", " e0: s "), "fire e0\nenabled\n" * n)
@@ -429,7 +429,7 @@ def cubic(n):
     return job("replay", block(STATE, " Boolean ", each("x#", range(n)), " (reset = false);\n  assertion\n", rules), "")
 
 
-@kind(500, 12000)
+@kind(500, 21500)
 def dense(n):
     """flows, each of 20 earlier ones"""
     chance = random.Random(1)
@@ -494,7 +494,7 @@ def ringeq(n):
     return lost("equations", STATION + block(flows, " assertion x0 := c.up or x%d;\n" % (n - 1), rules))
 
 
-@kind(50, 8000)
+@kind(50, 2000)
 def rings(n):
     """stations in rings of 50"""
     part = ("class S Boolean s (init = true); Boolean l, r, o (reset = false); event e; transition e: s -> s := false;"
@@ -517,14 +517,14 @@ def gates(n):
 
 # Cuts
 
-@kind(200, 4000)
+@kind(200, 1020)
 def badorder(n):
     """pairs of which one fails whole; all first parts are declared before all second ones"""
     failed = each("not a#.up and not b#.up", range(n), " or ")
     return lost("cuts", STATION + block(" A ", each("a#", range(n)), ", ", each("b#", range(n)), ";\n observer Boolean lost = ", failed, ";\n"))
 
 
-@kind(500, 16000)
+@kind(500, 2000)
 def gapcuts(n):
     """parts that nothing reads, between the first and the second parts of 10 pairs"""
     failed = each("not a#.up and not b#.up", range(10), " or ")
@@ -571,13 +571,13 @@ def staged(numbers, before=""):
     return STATION + block(before, each("  A a#; A b#;\n", numbers, ""), own, rules)
 
 
-@kind(100, 2000)
+@kind(100, 1020)
 def stages(n):
     """stages of two parts, one behind the other, declared from the last to the first"""
     return lost("cuts", staged(range(n - 1, -1, -1)))
 
 
-@kind(100, 2000)
+@kind(100, 1020)
 def stagesfirst(n):
     """stages of two parts, declared from the first to the last"""
     return lost("cuts", staged(range(n)))
@@ -591,7 +591,7 @@ def inturn(n):
     return lost("cuts", part + staged(range(n), " U unread;\n"))
 
 
-@kind(50, 1000)
+@kind(50, 970)
 def unread(n):
     """such stages, and a unit of 66 modes that nothing reads"""
     ways = each(" e#: m == # -> m := # + 1;\n", range(65), "")
@@ -599,7 +599,7 @@ def unread(n):
     return lost("cuts", part + staged(range(n), " U unread;\n"))
 
 
-@kind(200, 4000)
+@kind(200, 2040)
 def series(n):
     """parts in a row, each flow of the one before"""
     rules = "".join(" g%d := g%d and a%d.up;\n" % (k, k - 1, k) for k in range(1, n))
@@ -638,7 +638,7 @@ def kofnmod(n):
     return kofn(n)._replace(verb="modules")
 
 
-@kind(50, 2000)
+@kind(50, 1000)
 def conflicts(n):
     """flows with two writers each, both of which have to fail for them to differ"""
     rules = "".join(" f%d := a%d.up; f%d := b%d.up;\n" % (i, i, i, i) for i in range(n))
@@ -656,7 +656,7 @@ def bridge(n):
     return lost("cuts", STATION + block(parts, flows, " assertion x0 := true; y0 := true;\n", rules))
 
 
-@kind(10, 200)
+@kind(10, 30)
 def bigtree(n):
     """trees of 60 edges in a row, of two neighbours the last modes"""
     ways = "".join(" e%d: m == %d -> m := %d;\n" % (i, i, i + 1) for i in range(60))
@@ -665,7 +665,7 @@ def bigtree(n):
     return lost("cuts", part + block(" C ", each("c#", range(n)), ";\n observer Boolean lost = ", failed, ";\n"))
 
 
-@kind(20, 2000)
+@kind(20, 500)
 def interleaved(n):
     """units of two states whose events are declared in turn"""
     part = ("domain T {OK, W, KO}\nclass C T a (init = OK); T b (init = OK); event a1, b1, a2, b2;\n transition a1: a == OK -> a := W;"
@@ -683,7 +683,7 @@ def idle(n):
     return lost("cuts", part + block(" A ", each("c#", range(n)), ";\n observer Boolean lost = ", failed, ";\n"))
 
 
-@kind(50, 2000)
+@kind(50, 700)
 def neighbours(n):
     """units with trees of two or three edges, where two neighbours have to fail"""
     part = ("domain S {OK, W, D, KO}\ndomain S3 {OK, W, KO}\n"
@@ -708,7 +708,7 @@ def forms(n):
     return lost("modules", "class C Boolean w (init = true); end\n" + block(states, ways, "  observer Boolean lost = ", failed, ";\n"))
 
 
-@kind(500, 16000)
+@kind(500, 8000)
 def dropall(n):
     """events that are dropped by name"""
     names = ",".join("a%d.fail" % i for i in range(1, n))
